@@ -1,0 +1,51 @@
+-- Points, their order, and the meaning of whatever answers questions about them.
+use mathlib.Core.Path.{_≡_}
+use mathlib.Core.Bool.{Bool, true, _&&_, cond}
+use mathlib.Core.List.{List, [], _∷_}
+use Prim.Native.Nat.{ℕ, zero, suc, _≤_}
+use lib.Dec.{ltb}
+use lib.ListN.{getD}
+use Rattle.std.specs.declared.option.Option.{Option}
+use Rattle.std.specs.declared.option.Option.the-variants.{None, Some}
+use Rattle.std.specs.declared.result.Result.{Result}
+use Rattle.std.specs.declared.result.Result.the-variants.{Ok}
+use Rattle.points.specs.declared.Fault.{Fault}
+
+-- the rank of p in coordinate i, counted from 0
+abbrev pub rankOf : List ℕ → ℕ → ℕ
+rankOf p i = getD p i 0
+
+-- the size of coordinate i among eight sizes
+abbrev pub sizeOf : List ℕ → ℕ → ℕ
+sizeOf sizes i = getD sizes i 0
+
+-- the test f holds at each number below n
+abbrev pub allBelow : ℕ → (ℕ → Bool) → Bool
+allBelow zero f = true
+allBelow (suc n) f = f n && allBelow n f
+
+-- eight ranks are a point where each is below the size of its coordinate; an unused coordinate has size 1, so its rank is 0
+abbrev pub isPoint : List ℕ → List ℕ → Bool
+isPoint sizes p = allBelow 8 (λ i. ltb (rankOf p i) (sizeOf sizes i))
+
+-- p is at most q: in each coordinate its rank is at most q's
+abbrev pub AtMost : List ℕ → List ℕ → Type 0
+AtMost p q = (i : ℕ) → rankOf p i ≤ rankOf q i
+
+-- the first place from i on, counted from i, at which p is above q
+abbrev pub firstAboveFrom : ℕ → List ℕ → List ℕ → Option ℕ
+firstAboveFrom i [] q = None
+firstAboveFrom i (a ∷ p) [] = None
+firstAboveFrom i (a ∷ p) (b ∷ q) = cond (ltb b a) (Some i) (firstAboveFrom (suc i) p q)
+
+-- the first coordinate in which p is above q, if there is one
+abbrev pub firstAbove : List ℕ → List ℕ → Option ℕ
+firstAbove = firstAboveFrom 0
+
+-- the meaning of a map: for each question an answer or a fault
+abbrev pub Meaning : Type 0
+Meaning = List ℕ → Result (List ℕ) Fault
+
+-- a larger question never has a smaller answer
+abbrev pub Monotone : Meaning → Type 0
+Monotone F = (p q y z : List ℕ) → AtMost p q → F p ≡ Ok y → F q ≡ Ok z → AtMost y z
