@@ -3,8 +3,8 @@ use mathlib.Core.Path.{_≡_}
 use mathlib.Core.Bool.{Bool, true, _&&_, cond}
 use mathlib.Core.List.{List, [], _∷_}
 use Prim.Native.Nat.{ℕ, zero, suc, _≤_}
-use lib.Dec.{ltb}
-use lib.ListN.{getD}
+use lib.Dec.{eqb, ltb}
+use lib.ListN.{length, getD}
 use Rattle.std.specs.declared.option.Option.{Option}
 use Rattle.std.specs.declared.option.Option.the-variants.{None, Some}
 use Rattle.std.specs.declared.result.Result.{Result}
@@ -26,7 +26,7 @@ allBelow (suc n) f = f n && allBelow n f
 
 -- eight ranks are a point where each is below the size of its coordinate; an unused coordinate has size 1, so its rank is 0
 abbrev pub isPoint : List ℕ → List ℕ → Bool
-isPoint sizes p = allBelow 8 (λ i. ltb (rankOf p i) (sizeOf sizes i))
+isPoint sizes p = eqb (length p) 8 && allBelow 8 (λ i. ltb (rankOf p i) (sizeOf sizes i))
 
 -- p is at most q: in each coordinate its rank is at most q's
 abbrev pub AtMost : List ℕ → List ℕ → Type 0
