@@ -1,10 +1,11 @@
 -- Points, their order, and the meaning of whatever answers questions about them.
 use mathlib.Core.Path.{_≡_}
-use mathlib.Core.Bool.{Bool, true, _&&_, cond}
-use mathlib.Core.List.{List, [], _∷_}
+use mathlib.Core.Bool.{Bool, true, false, _&&_, cond}
+use mathlib.Core.List.{List, [], _∷_, map}
 use Prim.Native.Nat.{ℕ, zero, suc, _≤_}
 use lib.Dec.{eqb, ltb}
 use lib.ListN.{length, getD}
+use Rattle.std.specs.Iters.{counting}
 use Rattle.std.specs.declared.option.Option.{Option}
 use Rattle.std.specs.declared.option.Option.the-variants.{None, Some}
 use Rattle.std.specs.declared.result.Result.{Result}
@@ -18,6 +19,10 @@ rankOf p i = getD p i 0
 -- the size of coordinate i among eight sizes
 abbrev pub sizeOf : List ℕ → ℕ → ℕ
 sizeOf sizes i = getD sizes i 0
+
+-- eight numbers, by coordinate
+abbrev pub eight : (ℕ → ℕ) → List ℕ
+eight f = map f (counting 0 8)
 
 -- the test f holds at each number below n
 abbrev pub allBelow : ℕ → (ℕ → Bool) → Bool
@@ -41,6 +46,17 @@ firstAboveFrom i (a ∷ p) (b ∷ q) = cond (ltb b a) (Some i) (firstAboveFrom (
 -- the first coordinate in which p is above q, if there is one
 abbrev pub firstAbove : List ℕ → List ℕ → Option ℕ
 firstAbove = firstAboveFrom 0
+
+-- two lists of ranks are the same
+abbrev pub sameRanks : List ℕ → List ℕ → Bool
+sameRanks [] [] = true
+sameRanks [] (b ∷ q) = false
+sameRanks (a ∷ p) [] = false
+sameRanks (a ∷ p) (b ∷ q) = eqb a b && sameRanks p q
+
+-- what is told of eight ranks that are no point
+abbrev pub outside : Fault
+outside = record { cause = 9; depth = 0 }
 
 -- the meaning of a map: for each question an answer or a fault
 abbrev pub Meaning : Type 0

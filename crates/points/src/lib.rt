@@ -3,7 +3,7 @@
 // A point is eight ranks, one for each coordinate. A panel with fewer coordinates leaves the rest at rank 0, as if each of
 // them had a single member.
 ghost use mathlib.Core.Path.{_≡_};
-ghost use Rattle.points.specs.Points.{isPoint, firstAbove};
+ghost use Rattle.points.specs.Points.{firstAbove, isPoint, sameRanks};
 
 // How many coordinates a point has room for.
 pub const COORDINATES: usize = 8;
@@ -25,12 +25,29 @@ pub struct Fault {
     pub depth: u8,
 }
 
+impl Fault {
+    // What is told of eight ranks that are no point.
+    pub const OUTSIDE: Fault = Fault { cause: 9, depth: 0 };
+}
+
 // Whether each of the eight ranks is below its coordinate's size.
 pub fn is_point(sizes: &Ranks, ranks: &Ranks) -> bool
     ensures { λ r. ⌜ r ≡ isPoint (now (sizes .entry)) (now (ranks .entry)) ⌝ }
 {
     for i in 0..8 {
         if ranks[i] >= sizes[i] {
+            return false;
+        }
+    }
+    true
+}
+
+// Whether two lists of eight ranks are the same.
+pub fn same_ranks(p: &Ranks, q: &Ranks) -> bool
+    ensures { λ r. ⌜ r ≡ sameRanks (now (p .entry)) (now (q .entry)) ⌝ }
+{
+    for i in 0..8 {
+        if p[i] != q[i] {
             return false;
         }
     }

@@ -1,0 +1,2 @@
+pub mod JobRanges
+pub mod Rules
