@@ -1,2 +1,5 @@
+pub mod JobOrder
 pub mod JobRanges
+pub mod Response
 pub mod Rules
+pub mod Through

@@ -1,3 +1,5 @@
 pub mod Above
-pub mod Tested
+pub mod Eight
+pub mod Guarded
 pub mod Same
+pub mod Tested

@@ -9,7 +9,7 @@ use Rattle.std.specs.Iters.{counting}
 use Rattle.std.specs.declared.option.Option.{Option}
 use Rattle.std.specs.declared.option.Option.the-variants.{None, Some}
 use Rattle.std.specs.declared.result.Result.{Result}
-use Rattle.std.specs.declared.result.Result.the-variants.{Ok}
+use Rattle.std.specs.declared.result.Result.the-variants.{Ok, Err}
 use Rattle.points.specs.declared.Fault.{Fault}
 
 -- the rank of p in coordinate i, counted from 0
@@ -61,6 +61,10 @@ outside = record { cause = 9; depth = 0 }
 -- the meaning of a map: for each question an answer or a fault
 abbrev pub Meaning : Type 0
 Meaning = List ℕ → Result (List ℕ) Fault
+
+-- a meaning that answers at points alone
+abbrev pub atPoints : List ℕ → Meaning → Meaning
+atPoints sizes F q = cond (isPoint sizes q) (F q) (Err outside)
 
 -- a larger question never has a smaller answer
 abbrev pub Monotone : Meaning → Type 0
