@@ -53,9 +53,12 @@ response jobs p i =
     ofJob (λ job. min (job .limit + 1) (job .run + blocking (drop (suc i) jobs) (drop (suc i) p) + preemption (take i jobs) (rankOf p i)))
     0 (nth jobs i)
 
--- the sizes of the coordinates: the ranks of a job go up to one past its limit
+-- the size of coordinate i: the ranks of a job go up to one past its limit
+abbrev pub jobSize : List Job → ℕ → ℕ
+jobSize jobs i = ofJob (λ job. job .limit + 2) 1 (nth jobs i)
+
 abbrev pub jobSizes : List Job → List ℕ
-jobSizes jobs = eight (λ i. ofJob (λ job. job .limit + 2) 1 (nth jobs i))
+jobSizes jobs = eight (jobSize jobs)
 
 abbrev pub jobMeaning : List Job → Meaning
 jobMeaning jobs = atPoints (jobSizes jobs) (λ q. Ok (eight (response jobs q)))
