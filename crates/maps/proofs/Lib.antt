@@ -3,4 +3,8 @@ pub mod JobsMonotone
 pub mod Layered
 pub mod PanelMade
 pub mod Releases
+pub mod RowLaws
+pub mod RowLookup
+pub mod RowPushed
+pub mod RowSlots
 pub mod Slices

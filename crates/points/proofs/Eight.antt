@@ -3,7 +3,8 @@ use mathlib.Core.Path.{_≡_}
 use mathlib.Core.Bool.{true}
 use mathlib.Core.List.{List}
 use mathlib.Core.Logic.{_⊎_, inl, inr}
-use Prim.Native.Nat.{ℕ, _<_, _≤_, zero-le}
+use Prim.Native.Nat.{ℕ, zero, suc, _<_, _≤_, zero-le}
+use native.Mathlib.Omega.{arith}
 use native.Mathlib.Nat.{zero-add}
 use lib.ListN.{length, getD}
 use Rattle.std.proofs.shelf.Counted.{fill-by-all, getD-map-counting, length-map-counting}
@@ -34,3 +35,15 @@ eight-at-most f g h i = by-place (cases-lt i 8)
     by-place : (i < 8) ⊎ (8 ≤ i) → rankOf (eight f) i ≤ rankOf (eight g) i
     by-place (inl l) = rw (eight-at f i l, eight-at g i l) (h i)
     by-place (inr l) = rw (getD-past (eight f) i 0 (rw (eight-length f) l)) (zero-le)
+
+-- what holds at each of the eight coordinates holds below 8
+pub by-coordinate : (P : ℕ → Type 0) → P 0 → P 1 → P 2 → P 3 → P 4 → P 5 → P 6 → P 7 → (i : ℕ) → i < 8 → P i
+by-coordinate P a b c d e f g h zero l = a
+by-coordinate P a b c d e f g h (suc zero) l = b
+by-coordinate P a b c d e f g h (suc (suc zero)) l = c
+by-coordinate P a b c d e f g h (suc (suc (suc zero))) l = d
+by-coordinate P a b c d e f g h (suc (suc (suc (suc zero)))) l = e
+by-coordinate P a b c d e f g h (suc (suc (suc (suc (suc zero))))) l = f
+by-coordinate P a b c d e f g h (suc (suc (suc (suc (suc (suc zero)))))) l = g
+by-coordinate P a b c d e f g h (suc (suc (suc (suc (suc (suc (suc zero))))))) l = h
+by-coordinate P a b c d e f g h (suc (suc (suc (suc (suc (suc (suc (suc i)))))))) l = absurd (omega arith)
