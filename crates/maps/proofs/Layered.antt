@@ -1,5 +1,6 @@
--- What is held keeps the laws of a chain, so what holds it does.
+-- What a map or a layer takes over keeps the laws of a chain.
 use Rattle.chains.specs.Order.{Order, OrderLaws}
+use Rattle.maps.specs.Rules.{SameOrder}
 use Rattle.maps.specs.Through.{through}
 
 pub through-laws : {L M V : Type 0} (held : L → M) (o : Order M V) → OrderLaws o → OrderLaws (through held o)
@@ -9,3 +10,7 @@ through-laws held o laws = record {
   ranked = λ l. laws .ranked (held l);
   placed = λ l. laws .placed (held l);
 }
+
+-- what is held stays, so what holds it does
+pub through-same : {L M V : Type 0} (held : L → M) (o : Order M V) (m n : L) → SameOrder o (held m) (held n) → SameOrder (through held o) m n
+through-same held o m n same = record { size = same .size; member = same .member; rank = same .rank }

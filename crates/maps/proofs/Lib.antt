@@ -1,6 +1,8 @@
 pub mod JobLaws
 pub mod JobsMonotone
 pub mod Layered
+pub mod MemoLaws
+pub mod MemoRecall
 pub mod PanelMade
 pub mod Releases
 pub mod RowLaws

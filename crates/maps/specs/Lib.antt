@@ -1,6 +1,8 @@
 pub mod Indexed
 pub mod JobOrder
 pub mod JobRanges
+pub mod Layers
+pub mod Recall
 pub mod Replies
 pub mod Response
 pub mod RowsMade
