@@ -1,0 +1,11 @@
+-- A layer that only counts.
+use Rattle.maps.specs.Rules.{Rules}
+use Rattle.map_trials.specs.declared.tally.Tally.{Tally}
+
+abbrev pub tallyRules : {M : Type 0} → Rules M → Rules (Tally M)
+tallyRules r = record {
+  dims = λ m. r .dims (m .map);
+  sizes = λ m. r .sizes (m .map);
+  meaning = λ m. r .meaning (m .map);
+  puts = λ m q n. r .puts (m .map) q (n .map);
+}

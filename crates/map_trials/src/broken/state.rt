@@ -1,0 +1,9 @@
+// What a broken map holds.
+ghost use Prim.Native.Nat.{_≤_};
+use chains::Grades;
+
+pub struct Broken {
+    pub(super) grades: Grades,
+    pub(super) depth: u8,
+    ghost most: { depth ≤ 255 },
+}
