@@ -1,1 +1,5 @@
-
+// Hand-worked cases.
+mod chains;
+mod jobs;
+mod memo;
+mod rows;

@@ -57,6 +57,18 @@ impl<M: Map> Memo<M> {
         }
     }
 
+    // The map below, given back; what was stored is let go.
+    pub fn into_map(self) -> M
+        ensures { λ r. ⌜ r ≡ self .map ⌝ }
+    {
+        let Memo {
+            map,
+            entries: _,
+            count: _,
+        } = self;
+        map
+    }
+
     // Stores one more answer, if there is room.
     fn store(&mut self, entry: Entry)
         ensures map { λ _. ⌜ now (self .exit) .map ≡ now (self .entry) .map ⌝ }

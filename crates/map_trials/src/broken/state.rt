@@ -2,6 +2,7 @@
 ghost use Prim.Native.Nat.{_≤_};
 use chains::Grades;
 
+#[derive(Drop)]
 pub struct Broken {
     pub(super) grades: Grades,
     pub(super) depth: u8,
