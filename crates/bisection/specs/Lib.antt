@@ -1,0 +1,6 @@
+pub mod Bits
+pub mod Bounds
+pub mod Judge
+pub mod Levels
+pub mod Run
+pub mod Sound

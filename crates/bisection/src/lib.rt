@@ -1,0 +1,5 @@
+// The nested bisection: which question comes next, and what an answer decides. A plain machine with no map in it.
+pub mod bounds;
+pub mod level;
+pub mod levels;
+pub mod verdict;
