@@ -1,1 +1,3 @@
-
+pub mod Tails
+pub mod Moves
+pub mod Ready
