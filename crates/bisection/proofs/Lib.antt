@@ -1,7 +1,10 @@
+pub mod Along
 pub mod Future
 pub mod Moves
 pub mod Progress
+pub mod Question
 pub mod Ready
+pub mod Runs
 pub mod Still
 pub mod Tails
 pub mod Ways

@@ -172,3 +172,9 @@ module _ (Put : Entry → Type 0) (sizes : List ℕ) (e : Entry) (put : Put e) w
               (λ i lt. here k l ls g r i lt .0) h;
             answers = omega (arith, h .0 k (omega arith) .1)
           }
+
+-- a pair names one of the coordinates in use
+pub pair-in : {e : Entry} {k j : ℕ} {ls : List Level} {low high : Entry} → Ways e k ls (pair low high j) → j < k + length ls
+pair-in (up s w) = omega (arith, pair-in w)
+pair-in (over more past) = omega arith
+pair-in (under fewer past) = omega arith

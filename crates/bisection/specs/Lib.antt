@@ -2,5 +2,6 @@ pub mod Bits
 pub mod Bounds
 pub mod Judge
 pub mod Levels
+pub mod Promises
 pub mod Run
 pub mod Sound
