@@ -1,6 +1,6 @@
 -- What holds all along a search from good levels.
 use mathlib.Core.Path.{_≡_, refl, sym, _∙_, ap, subst}
-use mathlib.Core.Logic.{_⊎_, inl, inr}
+use mathlib.Core.Logic.{inl, inr, ⊎-elim}
 use mathlib.Core.Bool.{true}
 use mathlib.Core.List.{List, [], _∷_}
 use Prim.Native.Nat.{ℕ, zero, suc, _+_, _≤_, _<_}
@@ -26,7 +26,7 @@ use Rattle.bisection.proofs.Ready.{Good, good-small}
 use Rattle.bisection.proofs.Runs.{Runs, entryOf}
 use Rattle.bisection.proofs.Runs.Runs.{spends, fills, faulted, fixed, paired, went}
 use Rattle.bisection.proofs.Still.{later}
-use Rattle.bisection.proofs.Tails.{Tail, tail-all, tail-map}
+use Rattle.bisection.proofs.Tails.{tail-end}
 use Rattle.bisection.proofs.Ways.{Ways, ways}
 
 -- an outcome other than for want of budget or room
@@ -61,7 +61,7 @@ module _ (F : Meaning) (Put : Entry → Type 0) (sizes : List ℕ) where
         eight = question-eight ls (omega (arith, good-small Put sizes 0 ls g));
         reads = question-reads ls;
         same = λ i h. absurd (omega arith);
-        within = none ls
+        within = none ls;
       }
     where
       none : (us : List Level) → Within 0 (question ls) us
@@ -76,9 +76,10 @@ module _ (F : Meaning) (Put : Entry → Type 0) (sizes : List ℕ) where
 
   -- the first question
   first : (ls : List Level) → Good Put sizes 0 ls → (q : List ℕ) → Among q (question ls ∷ []) → Coming 0 ls q × (length q ≡ 8)
-  first ls g q (inl s) =
-      (inl (subst (λ x. Reads x 0 ls) (sym s) (question-reads ls)),
-        ap length s ∙ question-eight ls (omega (arith, good-small Put sizes 0 ls g)))
+  first ls g q (inl s) = (
+    inl (subst (λ x. Reads x 0 ls) (sym s) (question-reads ls)),
+    ap length s ∙ question-eight ls (omega (arith, good-small Put sizes 0 ls g)),
+  )
   first ls g q (inr b) = absurd b
 
   -- each question was to come, and has eight ranks
@@ -102,10 +103,11 @@ module _ (F : Meaning) (Put : Entry → Type 0) (sizes : List ℕ) where
   none-twice (fixed a d) g puts = (λ b. b, tt)
   none-twice (paired a d) g puts = (λ b. b, tt)
   none-twice (went {ls = ls} {next = next} {y = y} {r = r} a d w) g puts =
-      let p = next-good ls next y (puts (entryOf ls y) (inl refl)) d g in
-      (λ b. now-not-later (question ls) 0 ls (question-reads ls)
-        (p .coming (question ls) (questions-come w (p .good) (λ e c. puts e (inr c)) (question ls) b .0)),
-        none-twice w (p .good) (λ e c. puts e (inr c)))
+      let p = next-good ls next y (puts (entryOf ls y) (inl refl)) d g in (
+        λ b. now-not-later (question ls) 0 ls (question-reads ls)
+            (p .coming (question ls) (questions-come w (p .good) (λ e c. puts e (inr c)) (question ls) b .0)),
+        none-twice w (p .good) (λ e c. puts e (inr c)),
+      )
 
   -- they are no more than were to come
   pub few : {ls : List Level} {left room : ℕ} {r : Ran} → Runs F ls left room r → Good Put sizes 0 ls → ((e : Entry) → Among e (r .entries) → Put e) → count r ≤ suc (later 0 ls)
@@ -128,3 +130,53 @@ module _ (F : Meaning) (Put : Entry → Type 0) (sizes : List ℕ) where
   enough (went {ls = ls} {next = next} {y = y} a d w) g puts m n =
       let p = next-good ls next y (puts (entryOf ls y) (inl refl)) d g in
       enough w (p .good) (λ e c. puts e (inr c)) (omega (arith, p .less)) (omega (arith, p .less))
+
+  -- what is settled is its own answer, and was put
+  pub settled-fixed : (d : ℕ) → ((i : ℕ) → d ≤ i → i < 8 → sizeOf sizes i ≡ 1) → ((q y : List ℕ) → F q ≡ Ok y → isPoint sizes y ≡ true) → {ls : List Level} {left room : ℕ} {r : Ran} → Runs F ls left room r → Good Put sizes 0 ls → length ls ≡ d → ((e : Entry) → Among e (r .entries) → Put e) → IfSettled (λ q. (F q ≡ Ok q) × Among q (questions r)) (r .outcome)
+  settled-fixed d unused answers spends g many puts = tt
+  settled-fixed d unused answers fills g many puts = tt
+  settled-fixed d unused answers (faulted a) g many puts = tt
+  settled-fixed d unused answers (paired a _) g many puts = tt
+  settled-fixed d unused answers (fixed {ls = ls} {y = y} a s) g many puts =
+      (a ∙ ap Ok (ext-getD 0 y (question ls) (eight ∙ sym (begins ls y g .eight)) same), inl refl)
+    where
+      eight : length y ≡ 8
+      eight = point-eight sizes y (answers (question ls) y a)
+
+      same : (i : ℕ) → i < length y → rankOf y i ≡ rankOf (question ls) i
+      same i h =
+          ⊎-elim
+          (λ lt. agreed Put sizes (entryOf ls y) (puts (entryOf ls y) (inl refl)) (way ls y settled s) g (begins ls y g) i (omega arith))
+          (λ le. omega (
+            arith,
+            tail-end (λ j m. rankOf (question ls) j ≡ m) 0 ls (question-reads ls) i (omega arith),
+            unused i (omega arith) (omega (arith, eight)),
+            point-within sizes y (answers (question ls) y a) i (omega (arith, eight)),
+          ))
+          (cases-lt i (length ls))
+  settled-fixed d unused answers (went {ls = ls} {next = next} {y = y} {r = r} a s w) g many puts =
+      let p = next-good ls next y (puts (entryOf ls y) (inl refl)) s g in
+      shift (r .outcome)
+      (settled-fixed d unused answers w (p .good) (omega (arith, p .many)) (λ e c. puts e (inr c)))
+    where
+      shift : (o : Outcome) → IfSettled (λ q. (F q ≡ Ok q) × Among q (questions r)) o → IfSettled (λ q. (F q ≡ Ok q) × Among q (question ls ∷ questions r)) o
+      shift (settles q) h = (h .0, inr (h .1))
+      shift (pairs low high k) h = tt
+      shift spent h = tt
+      shift full h = tt
+      shift (faults q f) h = tt
+
+  -- a pair is two entries that contradict each other
+  pub pair-contradicts : (d : ℕ) → ((q y : List ℕ) → F q ≡ Ok y → isPoint sizes y ≡ true) → {ls : List Level} {left room : ℕ} {r : Ran} → Runs F ls left room r → Good Put sizes 0 ls → length ls ≡ d → ((e : Entry) → Among e (r .entries) → Put e) → IfPair (λ low high k. Contradict Put low high k × (k < d)) (r .outcome)
+  pair-contradicts d answers spends g many puts = tt
+  pair-contradicts d answers fills g many puts = tt
+  pair-contradicts d answers (faulted a) g many puts = tt
+  pair-contradicts d answers (fixed a _) g many puts = tt
+  pair-contradicts d answers (paired {ls = ls} {y = y} {low = low} {high = high} {k = k} a s) g many puts =
+      let w = way ls y (pair low high k) s in (
+        contradict Put sizes (entryOf ls y) (puts (entryOf ls y) (inl refl)) (point-within sizes y (answers (question ls) y a)) w g (begins ls y g),
+        omega (arith, pair-in w),
+      )
+  pair-contradicts d answers (went {ls = ls} {next = next} {y = y} a s w) g many puts =
+      let p = next-good ls next y (puts (entryOf ls y) (inl refl)) s g in
+      pair-contradicts d answers w (p .good) (omega (arith, p .many)) (λ e c. puts e (inr c))

@@ -38,11 +38,12 @@ Middles b n ls = Tail (λ j m. (rankOf (b .floor) j ≤ m) × (m ≤ rankOf (b .
 
 -- a question within bounds b below n, which has the middles above
 pub reads-between : (b : Bounds) (x : List ℕ) (ls : List Level) → Middles b 0 ls → Reads x 0 ls → Between b x
-reads-between b x ls t r =
-    (λ j. tail-join (λ j m. (rankOf (b .floor) j ≤ m) × (m ≤ rankOf (b .roof) j)) (λ j m. rankOf x j ≡ m) (λ j. rankOf (b .floor) j ≤ rankOf x j) 0 ls
+reads-between b x ls t r = (
+  λ j. tail-join (λ j m. (rankOf (b .floor) j ≤ m) × (m ≤ rankOf (b .roof) j)) (λ j m. rankOf x j ≡ m) (λ j. rankOf (b .floor) j ≤ rankOf x j) 0 ls
       (λ j m p s. omega arith) t r j (omega arith),
-      λ j. tail-join (λ j m. (rankOf (b .floor) j ≤ m) × (m ≤ rankOf (b .roof) j)) (λ j m. rankOf x j ≡ m) (λ j. rankOf x j ≤ rankOf (b .roof) j) 0 ls
-      (λ j m p s. omega arith) t r j (omega arith))
+  λ j. tail-join (λ j m. (rankOf (b .floor) j ≤ m) × (m ≤ rankOf (b .roof) j)) (λ j m. rankOf x j ≡ m) (λ j. rankOf x j ≤ rankOf (b .roof) j) 0 ls
+      (λ j m p s. omega arith) t r j (omega arith),
+)
 
 -- after levels are opened below n, what is coming lies in their bounds and has the middles above, or is the future of the levels above
 pub opened-coming : (b : Bounds) (n : ℕ) (ls : List Level) (x : List ℕ) → AtMost (b .floor) (b .roof) → Middles b n ls → Coming 0 (opened b n ls) x → (Between b x × Reads x n ls) ⊎ Future n ls x

@@ -1,7 +1,9 @@
 pub mod Along
 pub mod Future
+pub mod Honesty
 pub mod Moves
 pub mod Progress
+pub mod Promised
 pub mod Question
 pub mod Ready
 pub mod Runs

@@ -36,6 +36,7 @@ module _ (k : ℕ) (e : Entry) (side : List ℕ) (hk : k < 8) (point : length (e
     where
       one : j - k ≡ suc (j - suc k)
       one = omega arith
+
       back : suc k + (j - suc k) ≡ j
       back = omega arith
 
@@ -80,11 +81,11 @@ module _ (k : ℕ) (b : Bounds) (e : Entry) (n : Narrowable k b e) where
         floorEight = moved-eight k e (b .floor) (n .small) (n .pointEight) (n .floorEight);
         roofEight = n .roofEight;
         inside =
-          (all (λ i v. rankOf (b .floor) i ≤ v) (λ i h. n .within i h .0) (omega arith) (λ i h. omega arith), λ i. omega arith);
+            (all (λ i v. rankOf (b .floor) i ≤ v) (λ i h. n .within i h .0) (omega arith) (λ i h. omega arith), λ i. omega arith);
         ordered = all (λ i v. v ≤ rankOf (b .roof) i) (λ i h. n .within i h .1) under (λ i h. n .ordered i);
         misses = λ x c s. omega (arith, c .0 k, at);
         half = omega (arith, at);
-        kept = λ j h. (moved-above k e (b .floor) (n .small) (n .pointEight) (n .floorEight) j h, refl)
+        kept = λ j h. (moved-above k e (b .floor) (n .small) (n .pointEight) (n .floorEight) j h, refl);
       }
 
   pub lowered-narrows : rankOf (e .answer) k < middle b k → rankOf (b .floor) k ≤ rankOf (e .answer) k → Narrowed k (middle b k) b (lowered k e b)
@@ -95,9 +96,9 @@ module _ (k : ℕ) (b : Bounds) (e : Entry) (n : Narrowable k b e) where
         floorEight = n .floorEight;
         roofEight = moved-eight k e (b .roof) (n .small) (n .pointEight) (n .roofEight);
         inside =
-          (λ i. omega arith, all (λ i v. v ≤ rankOf (b .roof) i) (λ i h. n .within i h .1) (omega (arith, n .ordered k)) (λ i h. omega arith));
+            (λ i. omega arith, all (λ i v. v ≤ rankOf (b .roof) i) (λ i h. n .within i h .1) (omega (arith, n .ordered k)) (λ i h. omega arith));
         ordered = all (λ i v. rankOf (b .floor) i ≤ v) (λ i h. n .within i h .0) over (λ i h. n .ordered i);
         misses = λ x c s. omega (arith, c .1 k, at);
         half = omega (arith, at, n .ordered k);
-        kept = λ j h. (refl, moved-above k e (b .roof) (n .small) (n .pointEight) (n .roofEight) j h)
+        kept = λ j h. (refl, moved-above k e (b .roof) (n .small) (n .pointEight) (n .roofEight) j h);
       }

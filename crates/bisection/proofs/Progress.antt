@@ -73,11 +73,12 @@ module _ (Put : Entry → Type 0) (sizes : List ℕ) (e : Entry) (put : Put e) w
         eight = r .eight;
         reads = r .reads .1;
         same = λ i h. ⊎-elim (λ lt. r .same i lt) (λ le. at i (omega arith)) (cases-lt i k);
-        within = nested ls (here k l ls g r) (g .1 .nests)
+        within = nested ls (here k l ls g r) (g .1 .nests);
       }
     where
       at : (i : ℕ) → k ≡ i → rankOf (e .answer) i ≡ rankOf (e .point) i
       at i t = subst (λ j. rankOf (e .answer) j ≡ rankOf (e .point) j) t (s ∙ sym (r .reads .0))
+
       nested : (us : List Level) → ((i : ℕ) → i < suc k → (rankOf (l .bounds .floor) i ≤ rankOf (e .point) i) × (rankOf (e .point) i ≤ rankOf (l .bounds .roof) i)) → Nests (l .bounds) us → Within (suc k) (e .point) us
       nested [] w n = n
       nested (u ∷ us) w n = λ i h. (omega (arith, n .0 i, w i h .0), omega (arith, n .1 i, w i h .1))
@@ -90,18 +91,19 @@ module _ (Put : Entry → Type 0) (sizes : List ℕ) (e : Entry) (put : Put e) w
         floorEight = g .1 .floorEight;
         roofEight = g .1 .roofEight;
         ordered = g .1 .ordered;
-        within = r .within
+        within = r .within;
       }
 
   -- this question is the footing of the side that it moved
   held : (R : ℕ → ℕ → Type 0) (End : Type 0) → ((x : ℕ) → R x x) → (k : ℕ) (l : Level) (ls : List Level) (side : List ℕ) → Good Put sizes k (l ∷ ls) → Reached e k (l ∷ ls) → length side ≡ 8 → R (l .middle) (rankOf (e .answer) k) → Held Put R End (suc k) (moved k e side) ls (Some e)
-  held R End same k l ls side g r eight way =
-      (moved-all k e side (g .1 .small) (r .eight) eight (λ i v. i < suc k → R (rankOf (e .point) i) v × R v (rankOf (e .answer) i))
+  held R End same k l ls side g r eight way = (
+    moved-all k e side (g .1 .small) (r .eight) eight (λ i v. i < suc k → R (rankOf (e .point) i) v × R v (rankOf (e .answer) i))
         (λ i h _. (same _, subst (R (rankOf (e .point) i)) (sym (r .same i h)) (same _)))
         (λ _. (subst (λ v. R v (rankOf (e .answer) k)) (sym (r .reads .0)) way, same _)) (λ i h lt. absurd (omega arith)),
-        tail-map (λ j m. rankOf (e .point) j ≡ m) (λ j m. R (rankOf (e .point) j) m) (suc k) ls
+    tail-map (λ j m. rankOf (e .point) j ≡ m) (λ j m. R (rankOf (e .point) j) m) (suc k) ls
         (λ j m h s. subst (R (rankOf (e .point) j)) s (same _)) (r .reads .1),
-        put)
+    put,
+  )
 
   -- a move at level k
   moved-on : (k : ℕ) (l : Level) (c : Bounds) (ls : List Level) → Good Put sizes k (l ∷ ls) → Narrowed k (middle (l .bounds) k) (l .bounds) c → Ready Put sizes (suc k) c ls → Progress Put sizes k (l ∷ ls) (opened c (suc k) ls)
@@ -111,7 +113,7 @@ module _ (Put : Entry → Type 0) (sizes : List ℕ) (e : Entry) (put : Put e) w
         good = opened-good Put sizes (suc k) c ls r (g .2);
         coming = λ x h. narrowed-coming k l c ls x m (r .tail) h;
         less = narrowed-later k l c ls m;
-        many = omega (arith, opened-many c (suc k) ls)
+        many = omega (arith, opened-many c (suc k) ls);
       }
 
   -- a search that goes on makes progress
@@ -123,12 +125,12 @@ module _ (Put : Entry → Type 0) (sizes : List ℕ) (e : Entry) (put : Put e) w
       let n = raised-narrows k (l .bounds) e (narrowable k l ls g r) (omega (arith, g .0)) fits in
       moved-on k l (raised k e (l .bounds)) ls g n
       (narrowed-ready Put sizes k (middle (l .bounds) k) (l .bounds) (raised k e (l .bounds)) ls (g .1) n
-        (held Up (Bottom (moved k e (l .bounds .floor))) (λ x. omega arith) k l ls (l .bounds .floor) g r (g .1 .floorEight) (omega arith)) (g .1 .high))
+      (held Up (Bottom (moved k e (l .bounds .floor))) (λ x. omega arith) k l ls (l .bounds .floor) g r (g .1 .floorEight) (omega arith)) (g .1 .high))
   progress (lower {k = k} {l = l} {ls = ls} fewer fits) g r =
       let n = lowered-narrows k (l .bounds) e (narrowable k l ls g r) (omega (arith, g .0)) fits in
       moved-on k l (lowered k e (l .bounds)) ls g n
       (narrowed-ready Put sizes k (middle (l .bounds) k) (l .bounds) (lowered k e (l .bounds)) ls (g .1) n (g .1 .low)
-        (held Down (Top sizes (moved k e (l .bounds .roof))) (λ x. omega arith) k l ls (l .bounds .roof) g r (g .1 .roofEight) (omega arith)))
+      (held Down (Top sizes (moved k e (l .bounds .roof))) (λ x. omega arith) k l ls (l .bounds .roof) g r (g .1 .roofEight) (omega arith)))
 
   -- where it is settled, every coordinate agrees
   pub agreed : {k : ℕ} {ls : List Level} → Ways e k ls settled → Good Put sizes k ls → Reached e k ls → (i : ℕ) → i < k + length ls → rankOf (e .answer) i ≡ rankOf (e .point) i
@@ -140,7 +142,7 @@ module _ (Put : Entry → Type 0) (sizes : List ℕ) (e : Entry) (put : Put e) w
   beside R trans k l ls side End f r near h i =
       ⊎-elim (λ lt. trans _ _ _ (h .0 i lt .0) (near i lt))
       (λ le. tail-join (λ j m. rankOf (e .point) j ≡ m) (λ j m. R (rankOf (f .point) j) m) (λ j. R (rankOf (f .point) j) (rankOf (e .point) j))
-        (suc k) ls (λ j m s t. subst (R (rankOf (f .point) j)) (sym s) t) (r .reads .1) (h .1) i le)
+      (suc k) ls (λ j m s t. subst (R (rankOf (f .point) j)) (sym s) t) (r .reads .1) (h .1) i le)
       (cases-lt i (suc k))
 
   -- where it is a pair, the two contradict each other, if the answer lies in the lattice
@@ -155,9 +157,9 @@ module _ (Put : Entry → Type 0) (sizes : List ℕ) (e : Entry) (put : Put e) w
             putLow = put;
             putHigh = h .2;
             points =
-              beside Down (λ x y z p q. omega arith) k l ls (l .bounds .roof) (Top sizes (l .bounds .roof)) f r
-              (λ i lt. here k l ls g r i lt .1) h;
-            answers = omega (arith, h .0 k (omega arith) .1)
+                beside Down (λ x y z p q. omega arith) k l ls (l .bounds .roof) (Top sizes (l .bounds .roof)) f r
+                (λ i lt. here k l ls g r i lt .1) h;
+            answers = omega (arith, h .0 k (omega arith) .1);
           }
   contradict inLattice (under {k = k} {l = l} {ls = ls} below past) g r = floored (l .bounds .«floor_footing») (g .1 .low)
     where
@@ -168,9 +170,9 @@ module _ (Put : Entry → Type 0) (sizes : List ℕ) (e : Entry) (put : Put e) w
             putLow = h .2;
             putHigh = put;
             points =
-              beside Up (λ x y z p q. omega arith) k l ls (l .bounds .floor) (Bottom (l .bounds .floor)) f r
-              (λ i lt. here k l ls g r i lt .0) h;
-            answers = omega (arith, h .0 k (omega arith) .1)
+                beside Up (λ x y z p q. omega arith) k l ls (l .bounds .floor) (Bottom (l .bounds .floor)) f r
+                (λ i lt. here k l ls g r i lt .0) h;
+            answers = omega (arith, h .0 k (omega arith) .1);
           }
 
 -- a pair names one of the coordinates in use

@@ -22,10 +22,11 @@ zeros (suc n) (suc i) = zeros n i
 -- some ranks, the middles of these levels, and then zeros
 reads-from : (front : List ℕ) (n r : ℕ) (ls : List Level) → length front ≡ n → Reads (front ++ (middles ls ++ replicate r 0)) n ls
 reads-from front n r [] e = λ j h. getD-append-right front (replicate r 0) n j 0 e h ∙ zeros r (j - n)
-reads-from front n r (l ∷ ls) e =
-    (getD-at front (l .middle) (middles ls ++ replicate r 0) 0 n e,
-      subst (λ x. Reads x (suc n) ls) (append-assoc front (l .middle ∷ []) (middles ls ++ replicate r 0))
-      (reads-from (front ++ l .middle ∷ []) (suc n) r ls (omega (arith, length-push front (l .middle)))))
+reads-from front n r (l ∷ ls) e = (
+  getD-at front (l .middle) (middles ls ++ replicate r 0) 0 n e,
+  subst (λ x. Reads x (suc n) ls) (append-assoc front (l .middle ∷ []) (middles ls ++ replicate r 0))
+      (reads-from (front ++ l .middle ∷ []) (suc n) r ls (omega (arith, length-push front (l .middle)))),
+)
 
 pub question-reads : (ls : List Level) → Reads (question ls) 0 ls
 question-reads ls = reads-from [] 0 (8 - length ls) ls refl

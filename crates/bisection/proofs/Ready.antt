@@ -70,11 +70,11 @@ module _ (Put : Entry → Type 0) (sizes : List ℕ) where
         tail = ((omega arith, omega (arith, r .ordered k)), r .tail);
         nests = (λ i. omega arith, λ i. omega arith);
         low =
-          held-down Put Up (Bottom (b .floor)) (λ x y z p q. omega arith) k (b .floor) (levelAt k b) ls (b .«floor_footing») (omega arith)
-          (r .low);
+            held-down Put Up (Bottom (b .floor)) (λ x y z p q. omega arith) k (b .floor) (levelAt k b) ls (b .«floor_footing») (omega arith)
+            (r .low);
         high =
-          held-down Put Down (Top sizes (b .roof)) (λ x y z p q. omega arith) k (b .roof) (levelAt k b) ls (b .«roof_footing»)
-          (omega (arith, r .ordered k)) (r .high)
+            held-down Put Down (Top sizes (b .roof)) (λ x y z p q. omega arith) k (b .roof) (levelAt k b) ls (b .«roof_footing»)
+            (omega (arith, r .ordered k)) (r .high);
       }
 
   -- opening keeps the levels good
@@ -91,11 +91,11 @@ module _ (Put : Entry → Type 0) (sizes : List ℕ) where
         roofEight = n .roofEight;
         ordered = n .ordered;
         tail =
-          tail-map (λ j m. (rankOf (b .floor) j ≤ m) × (m ≤ rankOf (b .roof) j)) (λ j m. (rankOf (c .floor) j ≤ m) × (m ≤ rankOf (c .roof) j))
-          (suc k) ls (λ j m h p. (omega (arith, n .kept j h .0, p .0), omega (arith, n .kept j h .1, p .1))) (r .tail);
+            tail-map (λ j m. (rankOf (b .floor) j ≤ m) × (m ≤ rankOf (b .roof) j)) (λ j m. (rankOf (c .floor) j ≤ m) × (m ≤ rankOf (c .roof) j))
+            (suc k) ls (λ j m h p. (omega (arith, n .kept j h .0, p .0), omega (arith, n .kept j h .1, p .1))) (r .tail);
         nests = nested ls (r .nests);
         low = low;
-        high = high
+        high = high;
       }
     where
       nested : (ls : List Level) → Nests b ls → Nests c ls

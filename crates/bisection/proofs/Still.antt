@@ -76,11 +76,13 @@ opened-later b (suc k) ls =
 -- a move at level k takes at least one off
 pub narrowed-later : (k : ℕ) (l : Level) (c : Bounds) (ls : List Level) → Narrowed k (l .middle) (l .bounds) c → suc (later 0 (opened c (suc k) ls)) ≤ later k (l ∷ ls)
 narrowed-later k l c ls n =
-    omega
-    (arith, opened-later c (suc k) ls,
+    omega (
+      arith,
+      opened-later c (suc k) ls,
       mul-le-mul
-      (less (binaryDigits (width c k)) (binaryDigits (width (l .bounds) k)) (digits-half (width c k) (width (l .bounds) k) (omega arith) (n .half)))
-      (product-mono k c (l .bounds) (n .inside)))
+          (less (binaryDigits (width c k)) (binaryDigits (width (l .bounds) k)) (digits-half (width c k) (width (l .bounds) k) (omega arith) (n .half)))
+          (product-mono k c (l .bounds) (n .inside)),
+    )
   where
     less : (x y : ℕ) → x < y → x ≤ y - 1
     less x y h = omega arith

@@ -2,8 +2,9 @@
 use mathlib.Core.Path.{_≡_, refl, sym, _∙_, ap, subst}
 use mathlib.Core.Logic.{⊎-elim}
 use mathlib.Core.List.{List, [], _∷_}
-use Prim.Native.Nat.{ℕ, zero, suc, _≤_, _<_}
+use Prim.Native.Nat.{ℕ, suc, _+_, _≤_, _<_}
 use native.Mathlib.Omega.{arith}
+use lib.ListN.{length}
 use Rattle.std.proofs.shelf.Tests.{cases-lt}
 use Rattle.bisection.specs.declared.level.Level.{Level}
 
@@ -32,3 +33,8 @@ pub tail-join : (P Q : ℕ → ℕ → Type 0) (R : ℕ → Type 0) (n : ℕ) (l
 tail-join P Q R n ls f s t =
     tail-all R n ls
     (tail-map (λ j m. P j m × Q j m) (λ j m. R j) n ls (λ j m h p. f j m (p .0) (p .1)) (tail-both P Q n ls s t))
+
+-- past the last level there is rank 0
+pub tail-end : (P : ℕ → ℕ → Type 0) (n : ℕ) (ls : List Level) → Tail P n ls → (j : ℕ) → n + length ls ≤ j → P j 0
+tail-end P n [] t j h = t j (omega arith)
+tail-end P n (l ∷ ls) t j h = tail-end P (suc n) ls (t .1) j (omega arith)

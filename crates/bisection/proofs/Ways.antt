@@ -25,7 +25,6 @@ pub data Ways (e : Entry) : ℕ → List Level → Decision → Type 0 where
   lower : {k : ℕ} {l : Level} {ls : List Level} → rankOf (e .answer) k < l .middle → rankOf (l .bounds .floor) k ≤ rankOf (e .answer) k → Ways e k (l ∷ ls) (goes (opened (lowered k e (l .bounds)) (suc k) ls))
 
 module _ (e : Entry) (k : ℕ) (l : Level) (ls : List Level) (above : Decision) where
-
   high : (t : Bool) → ltb (rankOf (l .bounds .roof) k) (rankOf (e .answer) k) ≡ t → l .middle < rankOf (e .answer) k → Ways e k (l ∷ ls) (carried k ls above (cond t (Verdict.Pair e (footing (l .bounds .«roof_footing»))) (Verdict.Move (raised k e (l .bounds)))))
   high true t h = over h (ltb-true _ _ t)
   high false t h = raise h (ltb-false _ _ t)

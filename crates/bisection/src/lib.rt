@@ -2,4 +2,5 @@
 pub mod bounds;
 pub mod level;
 pub mod levels;
+pub mod theorems;
 pub mod verdict;

@@ -20,7 +20,11 @@ pub enum Next {
     // the question is its own answer
     Settled,
     // two questions, the lower first, answered the other way round in `coordinate`, which is counted from 0
-    Pair { low: Entry, high: Entry, coordinate: usize },
+    Pair {
+        low: Entry,
+        high: Entry,
+        coordinate: usize,
+    },
     // the next question is ready
     Question,
 }
