@@ -1,4 +1,5 @@
 pub mod Along
+pub mod Copied
 pub mod Future
 pub mod Honesty
 pub mod Moves
