@@ -14,7 +14,7 @@ use Rattle.points.specs.Points.{rankOf, sizeOf, isPoint, Meaning}
 use Rattle.points.proofs.Tested.{point-eight, point-within}
 use Rattle.bisection.specs.Judge.{Decision, decide}
 use Rattle.bisection.specs.Judge.Decision.{settled, pair, goes}
-use Rattle.bisection.specs.Levels.{question}
+use Rattle.bisection.specs.Levels.{question, entryOf}
 use Rattle.bisection.specs.Promises.{Among, NoneTwice}
 use Rattle.bisection.specs.Run.{Outcome, Ran, questions, count}
 use Rattle.bisection.specs.Run.Outcome.{settles, pairs, spent, full, faults}
@@ -23,7 +23,7 @@ use Rattle.bisection.proofs.Future.{Reads, Future, Coming, now-not-later}
 use Rattle.bisection.proofs.Progress.{Within, Reached, Progress, Contradict, progress, agreed, contradict, pair-in}
 use Rattle.bisection.proofs.Question.{question-reads, question-eight}
 use Rattle.bisection.proofs.Ready.{Good, good-small}
-use Rattle.bisection.proofs.Runs.{Runs, entryOf}
+use Rattle.bisection.proofs.Runs.{Runs}
 use Rattle.bisection.proofs.Runs.Runs.{spends, fills, faulted, fixed, paired, went}
 use Rattle.bisection.proofs.Still.{later}
 use Rattle.bisection.proofs.Tails.{tail-end}

@@ -10,12 +10,12 @@ use Rattle.points.specs.declared.Entry.{Entry}
 use Rattle.points.specs.declared.Fault.{Fault}
 use Rattle.points.specs.Points.{Meaning}
 use Rattle.bisection.specs.Judge.{decide}
-use Rattle.bisection.specs.Levels.{question}
+use Rattle.bisection.specs.Levels.{question, entryOf}
 use Rattle.bisection.specs.Promises.{Among, Honest}
 use Rattle.bisection.specs.Run.{Outcome, Ran, after, follow, replied, run, questions, count}
 use Rattle.bisection.specs.Run.Outcome.{settles, pairs, spent, full, faults}
 use Rattle.bisection.specs.declared.level.Level.{Level}
-use Rattle.bisection.proofs.Runs.{Runs, entryOf}
+use Rattle.bisection.proofs.Runs.{Runs}
 use Rattle.bisection.proofs.Runs.Runs.{spends, fills, faulted, fixed, paired, went}
 
 module _ (F : Meaning) where

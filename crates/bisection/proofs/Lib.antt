@@ -8,6 +8,8 @@ pub mod Promised
 pub mod Question
 pub mod Ready
 pub mod Runs
+pub mod Steps
 pub mod Still
+pub mod Stored
 pub mod Tails
 pub mod Ways

@@ -9,14 +9,10 @@ use Rattle.points.specs.declared.Fault.{Fault}
 use Rattle.points.specs.Points.{Meaning}
 use Rattle.bisection.specs.Judge.{Decision, decide}
 use Rattle.bisection.specs.Judge.Decision.{settled, pair, goes}
-use Rattle.bisection.specs.Levels.{question}
+use Rattle.bisection.specs.Levels.{question, entryOf}
 use Rattle.bisection.specs.Run.{Outcome, Ran, ended, after, follow, replied, run}
 use Rattle.bisection.specs.Run.Outcome.{settles, pairs, spent, full, faults}
 use Rattle.bisection.specs.declared.level.Level.{Level}
-
--- the question of these levels with this answer
-abbrev pub entryOf : List Level → List ℕ → Entry
-entryOf ls y = record { point = question ls; answer = y }
 
 pub data Runs (F : Meaning) : List Level → ℕ → ℕ → Ran → Type 0 where
   spends : {ls : List Level} {room : ℕ} → Runs F ls zero room (ended [] spent)

@@ -5,6 +5,7 @@ ghost use lib.ListN.{length};
 use crate::level::Level;
 
 // Level k, counted from 0, stands at `at[k]` for k below `dims`; the rest of the array is not in use.
+#[derive(Drop)]
 pub struct Levels {
     pub(crate) at: [Level; 8],
     pub(crate) dims: usize,

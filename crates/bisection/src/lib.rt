@@ -2,5 +2,6 @@
 pub mod bounds;
 pub mod level;
 pub mod levels;
+mod machine;
 pub mod theorems;
 pub mod verdict;
