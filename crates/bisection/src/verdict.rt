@@ -1,6 +1,8 @@
 // What an answer decides, at one level and for the whole search.
 use crate::bounds::Bounds;
 use points::Entry;
+use points::EntryDebug;
+use points::EntryPartialEq;
 
 // What one level makes of an answer. `Settled` is told past the last level, where every coordinate has agreed.
 #[derive(Clone, Copy)]
@@ -15,7 +17,7 @@ pub enum Verdict {
 }
 
 // What the whole search makes of an answer.
-#[derive(Clone, Copy)]
+#[derive(Clone, Copy, PartialEq, Eq, Debug)]
 pub enum Next {
     // the question is its own answer
     Settled,
