@@ -1,5 +1,6 @@
 pub mod Along
 pub mod Copied
+pub mod Sizes
 pub mod Future
 pub mod Honesty
 pub mod Moves

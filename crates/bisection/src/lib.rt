@@ -13,6 +13,7 @@ mod verdict;
 
 pub use bounds::Bounds;
 pub use digits::binary_digits;
+pub use digits::most_questions;
 pub use level::Level;
 pub use levels::Levels;
 pub use verdict::Next;

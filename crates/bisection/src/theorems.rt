@@ -1,5 +1,6 @@
-// What is promised of every search from a sound box, whatever answers it: each function's contract is one promise.
-ghost use Rattle.bisection.specs.Promises.{SettledIsFixed, PairContradicts, MonotoneHasNoPair, NoQuestionTwice, QuestionsAreFew, EnoughSuffices, QuestionsAreInBox, SearchIsHonest, OnlyQuestionsMatter};
+// What is promised of every search from a sound box, whatever answers it: each function's contract is one promise. How many
+// questions it can put stands on `most_questions`.
+ghost use Rattle.bisection.specs.Promises.{SettledIsFixed, PairContradicts, MonotoneHasNoPair, NoQuestionTwice, QuestionsAreInBox, SearchIsHonest, OnlyQuestionsMatter};
 
 // What is settled is a point of the box that is its own answer.
 pub fn settled_is_fixed() -> bool
@@ -25,20 +26,6 @@ pub fn monotone_has_no_pair() -> bool
 // No question is put twice, the one that met a fault included.
 pub fn no_question_twice() -> bool
     ensures { λ _. ⌜ NoQuestionTwice ⌝ }
-{
-    true
-}
-
-// The questions number at most the product of the binary digits of the box's widths.
-pub fn questions_are_few() -> bool
-    ensures { λ _. ⌜ QuestionsAreFew ⌝ }
-{
-    true
-}
-
-// With that much budget and record, only a fault can refuse.
-pub fn enough_suffices() -> bool
-    ensures { λ _. ⌜ EnoughSuffices ⌝ }
 {
     true
 }

@@ -29,6 +29,7 @@ mod tests {
     use bisection::NextDebug;
     use bisection::NextPartialEq;
     use bisection::binary_digits;
+    use bisection::most_questions;
     use points::Entry;
     use std::test::*;
 
@@ -148,8 +149,17 @@ mod tests {
         )
     }
 
+    // Widths 12 and 22 have 4 and 5 digits, so 20 questions are enough for the two jobs.
     #[test]
     fn digits() -> Result<(), Fail> {
+        let roof = [11, 21, 0, 0, 0, 0, 0, 0];
+        let bounds = Bounds {
+            floor: [0; 8],
+            roof,
+            floor_footing: None,
+            roof_footing: None,
+        };
+        check_eq(most_questions(&bounds, 2), 20)?;
         check_eq(binary_digits(3), 2)?;
         check_eq(binary_digits(4), 3)?;
         check_eq(binary_digits(4294967295), 32)
