@@ -3,23 +3,23 @@ use mathlib.Core.Path.{_≡_, refl, sym, _∙_, ap, subst}
 use mathlib.Core.Logic.{inl, inr, ⊎-elim}
 use mathlib.Core.Bool.{true}
 use mathlib.Core.List.{List, [], _∷_}
-use Prim.Native.Nat.{ℕ, zero, suc, _+_, _≤_, _<_}
+use Prim.Native.Nat.{ℕ, suc, _≤_, _<_}
 use native.Mathlib.Omega.{arith}
 use lib.ListN.{length}
 use Rattle.std.proofs.shelf.Lists.{ext-getD}
 use Rattle.std.proofs.shelf.Tests.{cases-lt}
-use Rattle.std.specs.declared.result.Result.the-variants.{Ok, Err}
+use Rattle.std.specs.declared.result.Result.the-variants.{Ok}
 use Rattle.points.specs.declared.Entry.{Entry}
 use Rattle.points.specs.Points.{rankOf, sizeOf, isPoint, Meaning}
 use Rattle.points.proofs.Tested.{point-eight, point-within}
-use Rattle.bisection.specs.Judge.{Decision, decide}
+use Rattle.bisection.specs.Judge.{Decision, decision}
 use Rattle.bisection.specs.Judge.Decision.{settled, pair, goes}
 use Rattle.bisection.specs.Levels.{question, entryOf}
 use Rattle.bisection.specs.Promises.{Among, NoneTwice}
 use Rattle.bisection.specs.Run.{Outcome, Ran, questions, count}
 use Rattle.bisection.specs.Run.Outcome.{settles, pairs, spent, full, faults}
 use Rattle.bisection.specs.declared.level.Level.{Level}
-use Rattle.bisection.proofs.Future.{Reads, Future, Coming, now-not-later}
+use Rattle.bisection.proofs.Future.{Reads, Coming, now-not-later}
 use Rattle.bisection.proofs.Progress.{Within, Reached, Progress, Contradict, progress, agreed, contradict, pair-in}
 use Rattle.bisection.proofs.Question.{question-reads, question-eight}
 use Rattle.bisection.proofs.Ready.{Good, good-small}
@@ -68,10 +68,10 @@ module _ (F : Meaning) (Put : Entry → Type 0) (sizes : List ℕ) where
       none [] = tt
       none (u ∷ us) = λ i h. absurd (omega arith)
 
-  way : (ls : List Level) (y : List ℕ) (s : Decision) → decide 0 ls (entryOf ls y) ≡ s → Ways (entryOf ls y) 0 ls s
+  way : (ls : List Level) (y : List ℕ) (s : Decision) → decision ls y ≡ s → Ways (entryOf ls y) 0 ls s
   way ls y s d = subst (Ways (entryOf ls y) 0 ls) d (ways (entryOf ls y) 0 ls)
 
-  next-good : (ls next : List Level) (y : List ℕ) → Put (entryOf ls y) → decide 0 ls (entryOf ls y) ≡ goes next → Good Put sizes 0 ls → Progress Put sizes 0 ls next
+  next-good : (ls next : List Level) (y : List ℕ) → Put (entryOf ls y) → decision ls y ≡ goes next → Good Put sizes 0 ls → Progress Put sizes 0 ls next
   next-good ls next y p d g = progress Put sizes (entryOf ls y) p (way ls y (goes next) d) g (begins ls y g)
 
   -- the first question

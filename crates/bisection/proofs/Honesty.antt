@@ -1,15 +1,12 @@
 -- A search tells what F said, and looks at F nowhere else.
 use mathlib.Core.Path.{_≡_, refl, sym, _∙_, ap, subst}
-use mathlib.Core.Logic.{_⊎_, inl, inr}
-use mathlib.Core.List.{List, [], _∷_}
-use Prim.Native.Nat.{ℕ, zero, suc, _≤_}
+use mathlib.Core.Logic.{inl, inr}
+use mathlib.Core.List.{List}
+use Prim.Native.Nat.{ℕ, suc, _≤_}
 use native.Mathlib.Omega.{arith}
-use Rattle.std.specs.declared.result.Result.{Result}
 use Rattle.std.specs.declared.result.Result.the-variants.{Ok, Err}
 use Rattle.points.specs.declared.Entry.{Entry}
-use Rattle.points.specs.declared.Fault.{Fault}
 use Rattle.points.specs.Points.{Meaning}
-use Rattle.bisection.specs.Judge.{decide}
 use Rattle.bisection.specs.Levels.{question, entryOf}
 use Rattle.bisection.specs.Promises.{Among, Honest}
 use Rattle.bisection.specs.Run.{Outcome, Ran, after, follow, replied, run, questions, count}

@@ -1,9 +1,8 @@
 -- What a judgement leads to, from good levels.
-use mathlib.Core.Path.{_≡_, refl, sym, _∙_, ap, subst}
-use mathlib.Core.Logic.{_⊎_, inl, inr, ⊎-elim}
-use mathlib.Core.Bool.{true}
+use mathlib.Core.Path.{_≡_, sym, _∙_, subst}
+use mathlib.Core.Logic.{inr, ⊎-elim}
 use mathlib.Core.List.{List, [], _∷_}
-use Prim.Native.Nat.{ℕ, zero, suc, _+_, _-_, _≤_, _<_}
+use Prim.Native.Nat.{ℕ, zero, suc, _+_, _≤_, _<_}
 use native.Mathlib.Omega.{arith}
 use lib.ListN.{length}
 use Rattle.std.proofs.shelf.Tests.{cases-lt}
@@ -12,17 +11,16 @@ use Rattle.std.specs.declared.option.Option.the-variants.{None, Some}
 use Rattle.points.specs.declared.Entry.{Entry}
 use Rattle.points.specs.Points.{rankOf, sizeOf, AtMost}
 use Rattle.bisection.specs.Bounds.{middle, moved, raised, lowered, footing}
-use Rattle.bisection.specs.Judge.{Decision}
 use Rattle.bisection.specs.Judge.Decision.{settled, pair, goes}
 use Rattle.bisection.specs.Levels.{levelAt, opened}
 use Rattle.bisection.specs.Sound.{Bottom, Top}
 use Rattle.bisection.specs.declared.bounds.Bounds.{Bounds}
 use Rattle.bisection.specs.declared.level.Level.{Level}
 use Rattle.bisection.proofs.Future.{Reads, Future, Coming, narrowed-coming}
-use Rattle.bisection.proofs.Moves.{Inside, Narrowed, Narrowable, moved-all, raised-narrows, lowered-narrows}
+use Rattle.bisection.proofs.Moves.{Narrowed, Narrowable, moved-all, raised-narrows, lowered-narrows}
 use Rattle.bisection.proofs.Ready.{Up, Down, Held, Nests, Ready, Good, opened-good, narrowed-ready}
 use Rattle.bisection.proofs.Still.{later, narrowed-later}
-use Rattle.bisection.proofs.Tails.{Tail, tail-map, tail-join}
+use Rattle.bisection.proofs.Tails.{tail-map, tail-join}
 use Rattle.bisection.proofs.Ways.{Ways}
 use Rattle.bisection.proofs.Ways.Ways.{done, up, over, under, raise, lower}
 

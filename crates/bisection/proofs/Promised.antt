@@ -1,26 +1,26 @@
 -- The promises, from a sound box.
-use mathlib.Core.Path.{_≡_, refl, sym, _∙_, ap, subst}
+use mathlib.Core.Path.{_≡_, refl, ap, subst}
 use mathlib.Core.Logic.{_⊎_, inl, inr, ⊎-elim}
 use mathlib.Core.Bool.{true}
-use mathlib.Core.List.{List, [], _∷_}
-use Prim.Native.Nat.{ℕ, zero, suc, _+_, _≤_, _<_}
+use mathlib.Core.List.{List, [], _∷_, _++_, map}
+use Prim.Native.Nat.{ℕ, suc, _≤_, _<_}
 use native.Mathlib.Omega.{arith}
 use lib.ListN.{length}
 use Rattle.std.proofs.shelf.Lists.{getD-past}
 use Rattle.std.proofs.shelf.Tests.{cases-lt}
 use Rattle.std.specs.declared.option.Option.{Option}
 use Rattle.std.specs.declared.option.Option.the-variants.{None, Some}
-use Rattle.std.specs.declared.result.Result.the-variants.{Ok, Err}
+use Rattle.std.specs.declared.result.Result.the-variants.{Ok}
 use Rattle.points.specs.declared.Entry.{Entry}
-use Rattle.points.specs.Points.{rankOf, sizeOf, isPoint, AtMost, Meaning, Monotone}
+use Rattle.points.specs.Points.{rankOf, isPoint, Meaning, Monotone}
 use Rattle.points.proofs.Tested.{point-eight, point-within, point-from}
 use Rattle.bisection.specs.Bits.{product}
 use Rattle.bisection.specs.Bounds.{Between}
 use Rattle.bisection.specs.Levels.{opened}
 use Rattle.bisection.specs.Promises
-use Rattle.bisection.specs.Promises.{Among, WasPut, Contradiction, OfEverySearch}
-use Rattle.bisection.specs.Run.{Outcome, Ran, searched, questions, count}
-use Rattle.bisection.specs.Run.Outcome.{settles, pairs, spent, full, faults}
+use Rattle.bisection.specs.Promises.{Among, WasPut, Contradiction}
+use Rattle.bisection.specs.Run.{Ran, searched, questions, unanswered}
+use Rattle.bisection.specs.Run.Outcome.{settles, pairs, spent, full}
 use Rattle.bisection.specs.Sound.{Sound, Bottom, Top, FloorStands, RoofStands}
 use Rattle.bisection.specs.declared.bounds.Bounds.{Bounds}
 use Rattle.bisection.proofs.Along.{Concluded, IfSettled, IfPair, questions-come, none-twice, few, enough, settled-fixed, pair-contradicts}
@@ -30,6 +30,12 @@ use Rattle.bisection.proofs.Progress.{Contradict, opened-many}
 use Rattle.bisection.proofs.Ready.{Up, Down, Held, Ready, Good, opened-good}
 use Rattle.bisection.proofs.Runs.{Runs, runs}
 use Rattle.bisection.proofs.Still.{later, opened-later}
+
+-- the question of an entry is a question
+entry-question : (e : Entry) (es : List Entry) (qs : List (List ℕ)) → Among e es → Among (e .point) (map (λ (x : Entry). x .point) es ++ qs)
+entry-question e [] qs b = absurd b
+entry-question e (x ∷ es) qs (inl s) = inl (ap (λ (x : Entry). x .point) s)
+entry-question e (x ∷ es) qs (inr b) = inr (entry-question e es qs b)
 
 module _ (F : Meaning) (sizes : List ℕ) (d : ℕ) (box : Bounds) (left room : ℕ) (sound : Sound F sizes d box) where
   abbrev result : Ran
@@ -167,7 +173,13 @@ pub enough-suffices : Promises.EnoughSuffices
 enough-suffices F sizes d box left room sound = concluded F sizes d box left room sound
 
 pub questions-are-in-box : Promises.QuestionsAreInBox
-questions-are-in-box F sizes d box left room sound = in-box F sizes d box left room sound
+questions-are-in-box F sizes d box left room sound = (
+  in-box F sizes d box left room sound,
+  λ e a. in-box F sizes d box left room sound (e .point) (entry-question e (r .entries) (unanswered (r .outcome)) a),
+)
+  where
+    r : Ran
+    r = searched F d box left room
 
 pub search-is-honest : Promises.SearchIsHonest
 search-is-honest F d box left room = honest F (runs F (opened box d []) left room)

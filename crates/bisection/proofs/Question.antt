@@ -1,15 +1,14 @@
 -- The question of the levels: it has their middles.
-use mathlib.Core.Path.{_≡_, refl, sym, _∙_, ap, subst}
+use mathlib.Core.Path.{_≡_, refl, _∙_, subst}
 use mathlib.Core.List.{List, [], _∷_, _++_, map, append-assoc}
-use Prim.Native.Nat.{ℕ, zero, suc, _+_, _-_, _≤_, _<_}
+use Prim.Native.Nat.{ℕ, zero, suc, _-_, _≤_}
 use native.Mathlib.Omega.{arith}
-use lib.ListN.{length, getD, replicate, length-append, length-replicate, length-map}
+use lib.ListN.{length, replicate, length-append, length-replicate, length-map}
 use Rattle.std.proofs.shelf.Lists.{getD-at, getD-append-right, length-push}
 use Rattle.points.specs.Points.{rankOf}
 use Rattle.bisection.specs.Levels.{question}
 use Rattle.bisection.specs.declared.level.Level.{Level}
 use Rattle.bisection.proofs.Future.{Reads}
-use Rattle.bisection.proofs.Tails.{Tail}
 
 abbrev middles : List Level → List ℕ
 middles ls = map (λ (l : Level). l .middle) ls

@@ -1,13 +1,12 @@
 -- How many questions may still come: each move takes at least one off.
-use mathlib.Core.Path.{_≡_, refl, sym, _∙_, ap, subst}
+use mathlib.Core.Path.{_≡_, refl, _∙_}
 use mathlib.Core.Bool.{Bool, true, false}
 use mathlib.Core.List.{List, [], _∷_}
-use Prim.Native.Nat.{ℕ, zero, suc, _+_, _-_, _*_, _/_, _^_, _≤_, _<_}
-use native.Mathlib.Nat.{mul-le-mul, suc-mul, pow-suc}
+use Prim.Native.Nat.{ℕ, zero, suc, _+_, _-_, _*_, _/_, _≤_, _<_}
+use native.Mathlib.Nat.{mul-le-mul, suc-mul}
 use native.Mathlib.Omega.{arith}
 use lib.Dec.{eqb}
-use Rattle.std.proofs.shelf.Tests.{eqb-true, eqb-false, ne-eqb, eq-eqb}
-use Rattle.points.specs.Points.{rankOf, AtMost}
+use Rattle.std.proofs.shelf.Tests.{eqb-true, eqb-false, ne-eqb}
 use Rattle.bisection.specs.Bits.{halvings, binaryDigits, product}
 use Rattle.bisection.specs.Bounds.{width}
 use Rattle.bisection.specs.Levels.{levelAt, opened}

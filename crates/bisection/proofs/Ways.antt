@@ -1,18 +1,17 @@
 -- The ways that a judgement can go, so that no later proof opens its tests.
-use mathlib.Core.Path.{_≡_, refl, sym, _∙_, ap, subst}
+use mathlib.Core.Path.{_≡_, refl}
 use mathlib.Core.Bool.{Bool, true, false, cond}
 use mathlib.Core.List.{List, [], _∷_}
-use Prim.Native.Nat.{ℕ, zero, suc, _≤_, _<_}
+use Prim.Native.Nat.{ℕ, suc, _≤_, _<_}
 use native.Mathlib.Omega.{arith}
 use lib.Dec.{eqb, ltb}
 use Rattle.std.proofs.shelf.Tests.{eqb-true, eqb-false, ltb-true, ltb-false}
 use Rattle.points.specs.declared.Entry.{Entry}
 use Rattle.points.specs.Points.{rankOf}
 use Rattle.bisection.specs.Bounds.{raised, lowered, footing}
-use Rattle.bisection.specs.Judge.{Decision, judged, answeredAbove, answeredBelow, carried, decide}
+use Rattle.bisection.specs.Judge.{Decision, answeredAbove, answeredBelow, carried, decide}
 use Rattle.bisection.specs.Judge.Decision.{settled, pair, goes}
 use Rattle.bisection.specs.Levels.{opened}
-use Rattle.bisection.specs.declared.bounds.Bounds.{Bounds}
 use Rattle.bisection.specs.declared.level.Level.{Level}
 use Rattle.bisection.specs.declared.verdict.Verdict.{Verdict}
 

@@ -6,7 +6,7 @@ use lib.Dec.{eqb, ltb}
 use Rattle.points.specs.declared.Entry.{Entry}
 use Rattle.points.specs.Points.{rankOf}
 use Rattle.bisection.specs.Bounds.{raised, lowered, footing}
-use Rattle.bisection.specs.Levels.{opened}
+use Rattle.bisection.specs.Levels.{opened, entryOf}
 use Rattle.bisection.specs.declared.bounds.Bounds.{Bounds}
 use Rattle.bisection.specs.declared.level.Level.{Level}
 use Rattle.bisection.specs.declared.verdict.Verdict.{Verdict}
@@ -50,3 +50,7 @@ carried k above up (Move b) = goes (opened b (suc k) above)
 abbrev pub decide : ℕ → List Level → Entry → Decision
 decide k [] e = settled
 decide k (l ∷ above) e = carried k above (decide (suc k) above e) (judged k l e)
+
+-- what is decided by the answer y to the question of these levels
+abbrev pub decision : List Level → List ℕ → Decision
+decision levels y = decide 0 levels (entryOf levels y)

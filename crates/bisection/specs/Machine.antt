@@ -1,6 +1,6 @@
 -- What the machine's state means, and what its calls do to it.
 use mathlib.Core.Bool.{cond}
-use mathlib.Core.List.{List, []}
+use mathlib.Core.List.{List}
 use Prim.Native.Nat.{ℕ, suc, min, max}
 use lib.Dec.{ltb}
 use lib.ListN.{length, take, drop}

@@ -11,7 +11,7 @@ use Rattle.points.specs.declared.Fault.{Fault}
 use Rattle.points.specs.Points.{rankOf, isPoint, AtMost, Meaning, Monotone}
 use Rattle.bisection.specs.Bits.{product}
 use Rattle.bisection.specs.Bounds.{Between}
-use Rattle.bisection.specs.Run.{Outcome, Ran, searched, questions, count}
+use Rattle.bisection.specs.Run.{Ran, searched, questions, count}
 use Rattle.bisection.specs.Run.Outcome.{settles, pairs, spent, full, faults}
 use Rattle.bisection.specs.Sound.{Sound}
 use Rattle.bisection.specs.declared.bounds.Bounds.{Bounds}
@@ -76,11 +76,12 @@ EnoughSuffices =
     OfEverySearch λ F sizes d box left room r.
     product d box ≤ left → product d box ≤ room → (r .outcome ≡ spent → ⊥) × (r .outcome ≡ full → ⊥)
 
--- every question is a point of the box
+-- every question is a point of the box, and so is the question of every entry
 abbrev pub QuestionsAreInBox : Type 0
 QuestionsAreInBox =
     OfEverySearch λ F sizes d box left room r.
-    (q : List ℕ) → Among q (questions r) → Between box q × (isPoint sizes q ≡ true)
+    ((q : List ℕ) → Among q (questions r) → Between box q × (isPoint sizes q ≡ true))
+    × ((e : Entry) → Among e (r .entries) → Between box (e .point) × (isPoint sizes (e .point) ≡ true))
 
 -- what a search says that F said, F said; and a search that nothing was left for, or no room, put as many questions as there was
 pub record Honest (F : Meaning) (left room : ℕ) (r : Ran) : Type 0 where

@@ -7,7 +7,7 @@ use Rattle.std.specs.declared.result.Result.the-variants.{Ok, Err}
 use Rattle.points.specs.declared.Entry.{Entry}
 use Rattle.points.specs.declared.Fault.{Fault}
 use Rattle.points.specs.Points.{Meaning}
-use Rattle.bisection.specs.Judge.{Decision, decide}
+use Rattle.bisection.specs.Judge.{Decision, decision}
 use Rattle.bisection.specs.Levels.{opened, question, entryOf}
 use Rattle.bisection.specs.declared.bounds.Bounds.{Bounds}
 use Rattle.bisection.specs.declared.level.Level.{Level}
@@ -45,7 +45,7 @@ follow e go (Decision.goes levels) = after e (go levels)
 -- the question of these levels got this reply
 abbrev pub replied : List Level → (List Level → Ran) → Result (List ℕ) Fault → Ran
 replied levels go (Err f) = ended [] (faults (question levels) f)
-replied levels go (Ok y) = follow (entryOf levels y) go (decide 0 levels (entryOf levels y))
+replied levels go (Ok y) = follow (entryOf levels y) go (decision levels y)
 
 -- the search from these levels, with this much left and this much room in the record
 abbrev pub run : Meaning → List Level → ℕ → ℕ → Ran

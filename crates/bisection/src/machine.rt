@@ -2,8 +2,8 @@
 ghost use mathlib.Core.List.{[]};
 ghost use mathlib.Core.Path.{_≡_};
 ghost use lib.ListN.{drop};
-ghost use Rattle.bisection.specs.Judge.{verdict, decide};
-ghost use Rattle.bisection.specs.Levels.{opened, question, entryOf};
+ghost use Rattle.bisection.specs.Judge.{verdict, decision};
+ghost use Rattle.bisection.specs.Levels.{opened, question};
 ghost use Rattle.bisection.specs.Machine.{levelsOf, inRange, reopened, told, levelsAfter};
 use crate::bounds::Bounds;
 use crate::level::Level;
@@ -70,8 +70,8 @@ impl Levels {
 
     // Takes the answer to the question: the levels judge it from the innermost up.
     pub fn take(&mut self, answer: Ranks) -> Next
-        ensures tells { λ r. ⌜ r ≡ told (decide 0 (levelsOf (now (self .entry))) (entryOf (levelsOf (now (self .entry))) answer)) ⌝ }
-        ensures leaves { λ _. ⌜ levelsOf (now (self .exit)) ≡ levelsAfter (decide 0 (levelsOf (now (self .entry))) (entryOf (levelsOf (now (self .entry))) answer)) (levelsOf (now (self .entry))) ⌝ }
+        ensures tells { λ r. ⌜ r ≡ told (decision (levelsOf (now (self .entry))) answer) ⌝ }
+        ensures leaves { λ _. ⌜ levelsOf (now (self .exit)) ≡ levelsAfter (decision (levelsOf (now (self .entry))) answer) (levelsOf (now (self .entry))) ⌝ }
     {
         let put = Entry {
             point: self.question(),

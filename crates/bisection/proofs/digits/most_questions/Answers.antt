@@ -1,6 +1,5 @@
 use mathlib.Core.Path.{_≡_, _∙_, ap}
-use Prim.Native.Nat.{suc, min, _+_, _*_, _≤_, _^_}
-use native.Mathlib.Numerals.{add-one}
+use Prim.Native.Nat.{min, _+_, _*_, _≤_, _^_}
 use native.Mathlib.Omega.{arith}
 use Rattle.bisection.specs.Bits.{binaryDigits, product}
 use Rattle.bisection.specs.Bounds.{width}

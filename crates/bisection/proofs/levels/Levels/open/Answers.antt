@@ -1,8 +1,8 @@
-use mathlib.Core.Path.{_≡_, sym, _∙_, ap}
+use mathlib.Core.Path.{_≡_, _∙_, ap}
 use mathlib.Core.List.{[]}
 use Prim.Native.Nat.{suc, _-_}
 use native.Mathlib.Omega.{arith}
-use lib.ListN.{length, drop, take, replicate}
+use lib.ListN.{drop, take, replicate}
 use Rattle.std.proofs.shelf.Lists.{length-take-le}
 use Rattle.bisection.specs.Levels.{opened}
 use Rattle.bisection.specs.Machine.{inRange}

@@ -1,7 +1,7 @@
-use mathlib.Core.Path.{_≡_, refl, sym, _∙_, ap, subst}
+use mathlib.Core.Path.{_≡_, refl, sym, _∙_, ap}
 use Prim.Native.Nat.{suc, _+_, _-_}
 use native.Mathlib.Omega.{arith}
-use lib.ListN.{take, drop, set, getD}
+use lib.ListN.{take, drop, getD}
 use Rattle.std.proofs.shelf.Lists.{length-take-le}
 use Rattle.bisection.specs.Levels.{levelAt, opened}
 use Rattle.bisection.specs.Machine.{levelsOf}
