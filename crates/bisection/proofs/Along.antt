@@ -15,7 +15,7 @@ use Rattle.points.proofs.Tested.{point-eight, point-within}
 use Rattle.bisection.specs.Judge.{Decision, decision}
 use Rattle.bisection.specs.Judge.Decision.{settled, pair, goes}
 use Rattle.bisection.specs.Levels.{question, entryOf}
-use Rattle.bisection.specs.Promises.{Among, NoneTwice}
+use Rattle.bisection.specs.Members.{Among, NoneTwice}
 use Rattle.bisection.specs.Run.{Outcome, Ran, questions, count}
 use Rattle.bisection.specs.Run.Outcome.{settles, pairs, spent, full, faults}
 use Rattle.bisection.specs.declared.level.Level.{Level}

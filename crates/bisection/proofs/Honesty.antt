@@ -8,7 +8,8 @@ use Rattle.std.specs.declared.result.Result.the-variants.{Ok, Err}
 use Rattle.points.specs.declared.Entry.{Entry}
 use Rattle.points.specs.Points.{Meaning}
 use Rattle.bisection.specs.Levels.{question, entryOf}
-use Rattle.bisection.specs.Promises.{Among, Honest}
+use Rattle.bisection.specs.Members.{Among}
+use Rattle.bisection.specs.Promises.{Honest}
 use Rattle.bisection.specs.Run.{Outcome, Ran, after, follow, replied, run, questions, count}
 use Rattle.bisection.specs.Run.Outcome.{settles, pairs, spent, full, faults}
 use Rattle.bisection.specs.declared.level.Level.{Level}

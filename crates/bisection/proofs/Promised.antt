@@ -18,7 +18,8 @@ use Rattle.bisection.specs.Bits.{product}
 use Rattle.bisection.specs.Bounds.{Between}
 use Rattle.bisection.specs.Levels.{opened}
 use Rattle.bisection.specs.Promises
-use Rattle.bisection.specs.Promises.{Among, WasPut, Contradiction}
+use Rattle.bisection.specs.Members.{Among}
+use Rattle.bisection.specs.Promises.{WasPut, Contradiction}
 use Rattle.bisection.specs.Run.{Ran, searched, questions, unanswered}
 use Rattle.bisection.specs.Run.Outcome.{settles, pairs, spent, full}
 use Rattle.bisection.specs.Sound.{Sound, Bottom, Top, FloorStands, RoofStands}

@@ -2,7 +2,7 @@
 use mathlib.Core.Path.{_≡_}
 use mathlib.Core.Bool.{true}
 use mathlib.Core.Logic.{_⊎_}
-use mathlib.Core.List.{List, [], _∷_}
+use mathlib.Core.List.{List}
 use Prim.Native.Nat.{ℕ, _≤_, _<_}
 use Rattle.std.specs.declared.option.Option.the-variants.{Some}
 use Rattle.std.specs.declared.result.Result.the-variants.{Ok, Err}
@@ -11,20 +11,11 @@ use Rattle.points.specs.declared.Fault.{Fault}
 use Rattle.points.specs.Points.{rankOf, isPoint, AtMost, Meaning, Monotone}
 use Rattle.bisection.specs.Bits.{product}
 use Rattle.bisection.specs.Bounds.{Between}
+use Rattle.bisection.specs.Members.{Among, NoneTwice}
 use Rattle.bisection.specs.Run.{Ran, searched, questions, count}
 use Rattle.bisection.specs.Run.Outcome.{settles, pairs, spent, full, faults}
 use Rattle.bisection.specs.Sound.{Sound}
 use Rattle.bisection.specs.declared.bounds.Bounds.{Bounds}
-
--- x is one of the list
-abbrev pub Among : {A : Type 0} → A → List A → Type 0
-Among x [] = ⊥
-Among x (y ∷ ys) = (x ≡ y) ⊎ Among x ys
-
--- no member of the list comes again in it
-abbrev pub NoneTwice : {A : Type 0} → List A → Type 0
-NoneTwice [] = Unit {0}
-NoneTwice (x ∷ xs) = (Among x xs → ⊥) × NoneTwice xs
 
 -- e was put in this search, or is a footing of its box
 abbrev pub WasPut : Bounds → Ran → Entry → Type 0
