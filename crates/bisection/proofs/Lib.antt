@@ -1,0 +1,16 @@
+pub mod Along
+pub mod Copied
+pub mod Sizes
+pub mod Future
+pub mod Honesty
+pub mod Moves
+pub mod Progress
+pub mod Promised
+pub mod Question
+pub mod Ready
+pub mod Runs
+pub mod Steps
+pub mod Still
+pub mod Stored
+pub mod Tails
+pub mod Ways
