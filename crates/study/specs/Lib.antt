@@ -1,0 +1,5 @@
+pub mod Calls
+pub mod History
+pub mod Law
+pub mod Replies
+pub mod Values

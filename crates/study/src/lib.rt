@@ -1,0 +1,8 @@
+// A study: a map that is asked, raised, lowered and searched within an allowance of questions.
+mod reply;
+mod state;
+
+pub use reply::Details;
+pub use reply::Refusal;
+pub use reply::Report;
+pub use state::Study;
