@@ -50,30 +50,30 @@ roofAt e b = record { floor = b .floor; roof = e .point; «floor_footing» = b .
 abbrev pub pairRanks : ℕ → Entry → Entry → List ℕ
 pairRanks d low high = take d (low .point) ++ (take d (low .answer) ++ (take d (high .point) ++ take d (high .answer)))
 
-module _ {M V : Type 0} (o : Order M V) (r : Rules M) (s : Study M) where
-  -- ranks as a point, or which value has none
-  abbrev pub placed : Result (List ℕ) ℕ → Result (List ℕ) Refusal
-  placed (Ok ranks) = Ok (pointOf ranks)
-  placed (Err i) = Err (Value (suc i))
+-- ranks as a point, or which value has none
+abbrev pub placed : Result (List ℕ) ℕ → Result (List ℕ) Refusal
+placed (Ok ranks) = Ok (pointOf ranks)
+placed (Err i) = Err (Value (suc i))
 
+-- a point, unless it lies outside the box in a coordinate
+abbrev pub unlessOutside : List ℕ → Option ℕ → Result (List ℕ) Refusal
+unlessOutside q None = Ok q
+unlessOutside q (Some i) = Err (Outside (suc i))
+
+abbrev pub inside : Bounds → Result (List ℕ) Refusal → Result (List ℕ) Refusal
+inside box (Ok q) = unlessOutside q (firstOutside box q)
+inside box (Err refusal) = Err refusal
+
+module _ {M V : Type 0} (o : Order M V) (r : Rules M) (s : Study M) where
   -- the point that values name, if a strip of so many cells has room for its answer
   abbrev pub pointNamed : ℕ → List V → Result (List ℕ) Refusal
   pointNamed cells values =
       cond (ltb cells (r .dims (s .map))) (Err Strip)
       (cond (eqb (length values) (r .dims (s .map))) (placed (ranksFrom (o .rank (s .map)) (r .sizes (s .map)) 0 values)) (Err Values))
 
-  -- a point, unless it lies outside the box in a coordinate
-  abbrev pub unlessOutside : List ℕ → Option ℕ → Result (List ℕ) Refusal
-  unlessOutside q None = Ok q
-  unlessOutside q (Some i) = Err (Outside (suc i))
-
-  abbrev pub inside : Result (List ℕ) Refusal → Result (List ℕ) Refusal
-  inside (Ok q) = unlessOutside q (firstOutside (s .bounds) q)
-  inside (Err refusal) = Err refusal
-
-  -- the point of the box that values name
+  -- the point of the box that they name
   abbrev pub pointInBox : ℕ → List V → Result (List ℕ) Refusal
-  pointInBox cells values = inside (pointNamed cells values)
+  pointInBox cells values = inside (s .bounds) (pointNamed cells values)
 
 module _ {M V : Type 0} (o : Order M V) (r : Rules M) (s : Study M) (strip : List V) (log : List Entry) where
   -- the strip with these ranks written as values

@@ -1,6 +1,7 @@
 // A study: a map that is asked, raised, lowered and searched within an allowance of questions.
 mod reply;
 mod state;
+mod values;
 
 pub use reply::Details;
 pub use reply::Refusal;

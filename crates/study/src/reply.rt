@@ -57,7 +57,12 @@ impl Refusal {
             Refusal::Values => (2, 0, 0, 0),
             Refusal::Value { coordinate } => (3, coordinate, 0, 0),
             Refusal::Spent { count } => (4, 0, 0, count),
-            Refusal::Faulted { fault, count } => (5, u32::from(fault.cause), u32::from(fault.depth), count),
+            Refusal::Faulted { fault, count } => (
+                5,
+                u32::from(fault.cause),
+                u32::from(fault.depth),
+                count,
+            ),
             Refusal::Outside { coordinate } => (6, coordinate, 0, 0),
             Refusal::Side { coordinate } => (7, coordinate, 0, 1),
             Refusal::Full { count } => (8, 0, 0, count),
