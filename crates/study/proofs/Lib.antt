@@ -1,3 +1,6 @@
 pub mod Cells
 pub mod Firsts
+pub mod Judging
+pub mod Led
 pub mod Named
+pub mod Seeking

@@ -2,4 +2,5 @@ pub mod Calls
 pub mod History
 pub mod Law
 pub mod Replies
+pub mod Seek
 pub mod Values

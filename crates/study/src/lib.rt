@@ -1,5 +1,6 @@
 // A study: a map that is asked, raised, lowered and searched within an allowance of questions.
 mod reply;
+mod seek;
 mod state;
 mod values;
 
