@@ -75,35 +75,43 @@ module _ {M V : Type 0} (o : Order M V) (r : Rules M) (s : Study M) where
   abbrev pub pointInBox : ℕ → List V → Result (List ℕ) Refusal
   pointInBox cells values = inside (s .bounds) (pointNamed cells values)
 
+-- what is told of a question that is due: its answer, or why there is none
+abbrev pub orFaulted : Result (List ℕ) Fault → Result (List ℕ) Refusal
+orFaulted (Ok y) = Ok y
+orFaulted (Err f) = Err (Faulted f 1)
+
+abbrev pub answerTo : {M : Type 0} → Rules M → Study M → List ℕ → Result (List ℕ) Refusal
+answerTo r s q = cond (eqb (s .left) 0) (Err (Spent 0)) (orFaulted (r .meaning (s .map) q))
+
+-- it is put, if something is left
+abbrev pub putNow : {M : Type 0} → Study M → List ℕ → List (List ℕ)
+putNow s q = cond (eqb (s .left) 0) [] (q ∷ [])
+
 module _ {M V : Type 0} (o : Order M V) (r : Rules M) (s : Study M) (strip : List V) (log : List Entry) where
   -- the strip with these ranks written as values
   abbrev pub stripWith : List ℕ → List V
   stripWith ranks = written (o .member (s .map)) ranks strip
 
-  -- refused before any question was put
-  abbrev pub declined : Refusal → Deed V
-  declined refusal = record { reply = Err refusal; strip = strip; log = log; box = s .bounds; questions = []; entries = [] }
-
-  -- one question was put and met a fault
-  abbrev pub faulted : List ℕ → Fault → Deed V
-  faulted q f = record { reply = Err (Faulted f 1); strip = strip; log = log; box = s .bounds; questions = q ∷ []; entries = [] }
+  -- refused, after these questions were put
+  abbrev pub refusedAfter : List (List ℕ) → Refusal → Deed V
+  refusedAfter qs refusal = record { reply = Err refusal; strip = strip; log = log; box = s .bounds; questions = qs; entries = [] }
 
   -- one question was put and answered, so the strip holds the answer
   abbrev pub answered : Entry → Reply → Bounds → Deed V
   answered e reply box = record { reply = reply; strip = stripWith (take (r .dims (s .map)) (e .answer)); log = log; box = box; questions = e .point ∷ []; entries = e ∷ [] }
 
   -- what comes next of a point, unless it was refused
-  abbrev pub orDeclined : Result (List ℕ) Refusal → (List ℕ → Deed V) → Deed V
-  orDeclined (Ok q) next = next q
-  orDeclined (Err refusal) next = declined refusal
+  abbrev pub withPoint : Result (List ℕ) Refusal → (List ℕ → Deed V) → Deed V
+  withPoint (Ok q) next = next q
+  withPoint (Err refusal) next = refusedAfter [] refusal
 
-  -- a question is put, if something is left
-  abbrev pub replied : List ℕ → (Entry → Deed V) → Result (List ℕ) Fault → Deed V
-  replied q next (Ok y) = next (record { point = q; answer = y })
-  replied q next (Err f) = faulted q f
+  -- what comes next of its answer
+  abbrev pub withReply : List ℕ → (Entry → Deed V) → Result (List ℕ) Refusal → Deed V
+  withReply q next (Ok y) = next (record { point = q; answer = y })
+  withReply q next (Err refusal) = refusedAfter (putNow s q) refusal
 
   abbrev pub withAnswer : List ℕ → (Entry → Deed V) → Deed V
-  withAnswer q next = cond (eqb (s .left) 0) (declined (Spent 0)) (replied q next (r .meaning (s .map) q))
+  withAnswer q next = withReply q next (answerTo r s q)
 
   -- the box moves, unless the answer lies on the wrong side of its point
   abbrev pub moves : Entry → Bounds → Option ℕ → Deed V
@@ -111,18 +119,18 @@ module _ {M V : Type 0} (o : Order M V) (r : Rules M) (s : Study M) (strip : Lis
   moves e box (Some i) = answered e (Err (Side (suc i))) (s .bounds)
 
   abbrev pub asked : List V → Deed V
-  asked values = orDeclined (pointNamed o r s (length strip) values) (λ q. withAnswer q (λ e. answered e (Ok (Answered 1)) (s .bounds)))
+  asked values = withPoint (pointNamed o r s (length strip) values) (λ q. withAnswer q (λ e. answered e (Ok (Answered 1)) (s .bounds)))
 
   -- raised if the point is at most its answer
   abbrev pub raised : List V → Deed V
   raised values =
-      orDeclined (pointInBox o r s (length strip) values)
+      withPoint (pointInBox o r s (length strip) values)
       (λ q. withAnswer q (λ e. moves e (floorAt e (s .bounds)) (firstAbove (e .point) (e .answer))))
 
   -- lowered if the answer is at most the point
   abbrev pub lowered : List V → Deed V
   lowered values =
-      orDeclined (pointInBox o r s (length strip) values)
+      withPoint (pointInBox o r s (length strip) values)
       (λ q. withAnswer q (λ e. moves e (roofAt e (s .bounds)) (firstAbove (e .answer) (e .point))))
 
   -- the reply to a search that ended so, with its count; and the strip afterwards
@@ -153,7 +161,7 @@ module _ {M V : Type 0} (o : Order M V) (r : Rules M) (s : Study M) (strip : Lis
 
   abbrev pub searchedBox : Deed V
   searchedBox =
-      cond (ltb (length strip) (4 * r .dims (s .map))) (declined Strip)
+      cond (ltb (length strip) (4 * r .dims (s .map))) (refusedAfter [] Strip)
       (left-by (searched (r .meaning (s .map)) (r .dims (s .map)) (s .bounds) (s .left) (length log)))
 
   -- what a call leaves

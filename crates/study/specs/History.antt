@@ -37,6 +37,11 @@ pub record Event (M V : Type 0) : Type 0 where
   pub stripAfter : List V
   pub logAfter : List Entry
 
+-- a call on a study, with its strip and its record; its reply, and what the study, the strip and the record are afterwards
+abbrev pub event : {M V : Type 0} → Call V → Study M → List V → List Entry → Reply → Study M → List V → List Entry → Event M V
+event call before strip log reply after stripAfter logAfter =
+    record { call = call; before = before; strip = strip; log = log; reply = reply; after = after; stripAfter = stripAfter; logAfter = logAfter }
+
 module _ {M V : Type 0} (o : Order M V) (r : Rules M) where
   -- what the call was to leave
   abbrev pub due : Event M V → Deed V

@@ -15,7 +15,7 @@ use Rattle.bisection.specs.Bounds.{Between}
 use Rattle.bisection.specs.Members.{Among, NoneTwice}
 use Rattle.study.specs.Calls.{pairRanks, stripWith}
 use Rattle.study.specs.Calls.Call.{search}
-use Rattle.study.specs.History.{Event, Run, due, entriesOf, made, spentBy}
+use Rattle.study.specs.History.{Did, Event, Run, due, entriesOf, made, spentBy}
 use Rattle.study.specs.Replies.{reported}
 use Rattle.study.specs.declared.reply.Refusal.the-variants.{Faulted}
 use Rattle.study.specs.declared.reply.Report.{Report}
@@ -76,6 +76,11 @@ module _ {M V : Type 0} (o : Order M V) (r : Rules M) where
   KeepsLaw e =
       (m : M) (allowance : ℕ) (h : List (Event M V)) → Run o r (made r m allowance) h (e .before) →
       Run o r (made r m allowance) (e ∷ h) (e .after) × Lawful allowance h e
+
+  -- what each public call owes: that it did what its definition says, and that it keeps the law
+  pub record Accounted (e : Event M V) : Type 0 where
+    pub did : Did o r e
+    pub law : KeepsLaw e
 
   -- whatever calls follow on a newly made study, each is lawful
   abbrev pub LawOfRuns : M → ℕ → Type 0

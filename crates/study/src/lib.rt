@@ -1,4 +1,5 @@
 // A study: a map that is asked, raised, lowered and searched within an allowance of questions.
+mod calls;
 mod reply;
 mod seek;
 mod state;
