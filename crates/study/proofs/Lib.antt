@@ -3,5 +3,7 @@ pub mod Firsts
 pub mod Judging
 pub mod Led
 pub mod Named
+pub mod Order
 pub mod Putting
 pub mod Seeking
+pub mod Ways
