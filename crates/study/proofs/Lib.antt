@@ -5,5 +5,6 @@ pub mod Led
 pub mod Named
 pub mod Order
 pub mod Putting
+pub mod SearchLaw
 pub mod Seeking
 pub mod Ways
