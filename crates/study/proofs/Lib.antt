@@ -1,10 +1,12 @@
 pub mod Cells
 pub mod Firsts
 pub mod Judging
+pub mod Lawfully
 pub mod Led
 pub mod Named
 pub mod Order
 pub mod Putting
 pub mod SearchLaw
 pub mod Seeking
+pub mod Stepped
 pub mod Ways
