@@ -3,6 +3,8 @@
 // A point is eight ranks, one for each coordinate. A panel with fewer coordinates leaves the rest at rank 0, as if each of
 // them had a single member.
 ghost use mathlib.Core.Path.{_≡_};
+ghost use Prim.Native.Nat.{_<_};
+ghost use Rattle.std.specs.Options.{Cases as BySome};
 ghost use Rattle.points.specs.Points.{firstAbove, isPoint, sameRanks};
 
 // How many coordinates a point has room for.
@@ -56,7 +58,8 @@ pub fn same_ranks(p: &Ranks, q: &Ranks) -> bool
 
 // The first coordinate, counted from 0, in which `p` is above `q`: there is none exactly where `p` is at most `q`.
 pub fn first_above(p: &Ranks, q: &Ranks) -> Option<usize>
-    ensures { λ r. ⌜ r ≡ firstAbove (now (p .entry)) (now (q .entry)) ⌝ }
+    ensures value { λ r. ⌜ r ≡ firstAbove (now (p .entry)) (now (q .entry)) ⌝ }
+    ensures bound { λ r. ⌜ BySome r (Unit {0}) (λ i. i < 8) ⌝ }
 {
     for i in 0..8 {
         if p[i] > q[i] {

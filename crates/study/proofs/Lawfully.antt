@@ -14,7 +14,7 @@ use Rattle.study.specs.Calls.{Call, Deed, deed, searchedBox}
 use Rattle.study.specs.Calls.Call.{ask, raise, lower, search}
 use Rattle.study.specs.History.{Did, Event, Run, due, entriesOf, made, spentBy}
 use Rattle.study.specs.History.Run.{none, next}
-use Rattle.study.specs.Law.{AllLawful, KeepsLaw, LawOfRuns, Lawful, Searched}
+use Rattle.study.specs.Law.{Accounted, AllLawful, KeepsLaw, LawOfRuns, Lawful, Searched}
 use Rattle.study.specs.Replies.{reported}
 use Rattle.study.specs.declared.state.Study.{Study}
 use Rattle.study.proofs.SearchLaw.{FootingPut, search-law}
@@ -73,8 +73,11 @@ module _ {M V : Type 0} (o : Order M V) (r : Rules M) (laws : RulesLaws r) where
   reached m allowance (next {h = h} {e = e} run did) = goes-on allowance h e (reached m allowance run) did
 
   -- a call that did what its definition says keeps the law
-  pub keeps-law : (e : Event M V) → Did o r e → KeepsLaw o r e
+  keeps-law : (e : Event M V) → Did o r e → KeepsLaw o r e
   keeps-law e did m allowance h run = (next run did, lawful allowance h e (reached m allowance run) did)
+
+  pub accounted : (e : Event M V) → Did o r e → Accounted o r e
+  accounted e did = record { did = did; law = keeps-law e did }
 
   -- and so does every history
   all-lawful : (m : M) (allowance : ℕ) {h : List (Event M V)} {t : Study M} → Run o r (made r m allowance) h t → AllLawful o r allowance h

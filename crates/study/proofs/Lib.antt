@@ -1,4 +1,5 @@
 pub mod Cells
+pub mod Doing
 pub mod Firsts
 pub mod Judging
 pub mod Lawfully

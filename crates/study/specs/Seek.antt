@@ -1,7 +1,7 @@
 -- What the inner search leaves, from any state of a study: the run of the nested bisection, and nothing else.
 use mathlib.Core.Path.{_≡_}
 use mathlib.Core.List.{List, _++_}
-use Prim.Native.Nat.{ℕ, _+_}
+use Prim.Native.Nat.{ℕ, suc, _+_}
 use lib.ListN.{drop, length}
 use Rattle.chains.specs.Order.{Order}
 use Rattle.points.specs.declared.Entry.{Entry}
@@ -15,7 +15,7 @@ use Rattle.study.specs.declared.state.Study.{Study}
 -- an outcome, as the code tells it
 abbrev pub endedBy : Outcome → Ended
 endedBy (Outcome.settles q) = Settled q
-endedBy (Outcome.pairs low high k) = Pair low high k
+endedBy (Outcome.pairs low high k) = Pair low high (suc k)
 endedBy Outcome.spent = Spent
 endedBy Outcome.full = Full
 endedBy (Outcome.faults q f) = Faulted f

@@ -15,11 +15,11 @@ use points::Ranks;
 pub(crate) enum Ended {
     // this point is its own answer
     Settled(Ranks),
-    // two entries, the lower point first, that contradict each other in a coordinate, which is counted from 0
+    // two entries, the lower point first, that contradict each other in a coordinate, which is counted from 1
     Pair {
         low: Entry,
         high: Entry,
-        coordinate: usize,
+        coordinate: u32,
     },
     // a question was due and nothing was left
     Spent,
@@ -30,13 +30,6 @@ pub(crate) enum Ended {
 }
 
 impl<M: Map> Study<M> {
-    // What is left of the allowance.
-    pub fn left(&self) -> u32
-        ensures { λ r. ⌜ r ≡ now (self .entry) .left ⌝ }
-    {
-        self.left
-    }
-
     // Searches the box. Each answered question is the next entry of the log, and each that is put takes one from what is left.
     pub(crate) fn seek(&mut self, log: &mut [Entry]) -> Ended
         ensures { λ r. ⌜ Sought (M·Chain .order) (M·Map .rules) (now (self .entry)) (now (log .entry)) r (now (self .exit)) (now (log .exit)) ⌝ }
@@ -66,7 +59,7 @@ impl<M: Map> Study<M> {
                     Verdict::Pair { low, high } => break 'questions Ended::Pair {
                         low,
                         high,
-                        coordinate: k,
+                        coordinate: k as u32 + 1,
                     },
                     Verdict::Up => {
                         k += 1;

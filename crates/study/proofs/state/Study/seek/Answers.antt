@@ -1,6 +1,7 @@
 use mathlib.Core.Path.{_≡_, refl, sym, ap, subst, subst₂, _∙_}
 use mathlib.Core.List.{List}
 use Prim.Native.Nat.{ℕ, suc, _+_, _-_, _≤_, _<_, min, max}
+use native.Mathlib.Numerals.{add-one}
 use native.Mathlib.Omega.{arith}
 use lib.ListN.{drop, length, set}
 use Rattle.std.proofs.shelf.Lists.{length-take}
@@ -10,6 +11,7 @@ use Rattle.bisection.proofs.Steps.{move-leaves, up-agrees, up-within}
 use Rattle.bisection.specs.Run.{Outcome}
 use Rattle.bisection.specs.declared.verdict.Verdict.the-variants.{Settled, Pair, Move}
 use Rattle.study.specs.Seek.{Sought, endedBy}
+use Rattle.study.specs.declared.seek.Ended.{Ended}
 use Rattle.study.specs.declared.state.Study.{Study}
 use Rattle.study.proofs.Judging.{entry, judged-decision, newest}
 use Rattle.study.proofs.Seeking.{Asking, begins, ends-fault, ends-full, ends-pair, ends-settled, ends-spent, goes-on}
@@ -108,4 +110,4 @@ returns-in-Pair g c =
     let end =
     ends-pair (g .M·Chain .order) r (c .args .self .now) (c .args .log .now) ls at s log (c .questions .inv) t (omega arith) (omega (arith, c .questions .inv .whole)) refl refl
     (subst (λ p. r .puts (s .map) p (c .put .last .self)) asked (told .leads)) (told .same) (told .same-order) y (told .answer ∙ ap (r .meaning (s .map)) asked) low high (c .levels .k) decided in
-    subst (λ p. Sought (g .M·Chain .order) r (c .args .self .now) (c .args .log .now) (endedBy (Outcome.pairs low high (c .levels .k))) t (set log at (entry p y))) (sym asked) end
+    subst₂ (λ n p. Sought (g .M·Chain .order) r (c .args .self .now) (c .args .log .now) (Ended.Pair low high n) t (set log at (entry p y))) (sym (add-one (c .levels .k))) (sym asked) end
