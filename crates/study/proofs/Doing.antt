@@ -73,10 +73,10 @@ module _ {M V : Type 0} (o : Order M V) (r : Rules M) (s : Study M) (strip : Lis
         record {
           reply = sym (ap (λ (d : Deed V). d .reply) is);
           strip =
-            shows
-            ∙ ap (λ n. written (o .member (t .map)) (take n y) strip) (put .same .dims)
-            ∙ written-same (o .member (t .map)) (o .member (s .map)) (put .sameOrder .member) (take (r .dims (s .map)) y) strip
-            ∙ sym (ap (λ (d : Deed V). d .strip) is);
+              shows
+              ∙ ap (λ n. written (o .member (t .map)) (take n y) strip) (put .same .dims)
+              ∙ written-same (o .member (t .map)) (o .member (s .map)) (put .sameOrder .member) (take (r .dims (s .map)) y) strip
+              ∙ sym (ap (λ (d : Deed V). d .strip) is);
           log = sym (ap (λ (d : Deed V). d .log) is);
           box = sym (ap (λ (d : Deed V). d .box) is);
           left = omega (arith, sameLeft, put .left, ap length asked);

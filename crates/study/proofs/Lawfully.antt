@@ -49,7 +49,7 @@ module _ {M V : Type 0} (o : Order M V) (r : Rules M) (laws : RulesLaws r) where
     pub goes-on : Reached allowance (e ∷ h) (e .after)
     goes-on = record {
       sound = sound-same r (e .before .map) (e .after .map) (e .after .bounds) (did .same)
-        (subst (Sound (r .meaning (e .before .map)) (r .sizes (e .before .map)) (r .dims (e .before .map))) (sym (did .box)) (step .sound));
+          (subst (Sound (r .meaning (e .before .map)) (r .sizes (e .before .map)) (r .dims (e .before .map))) (sym (did .box)) (step .sound));
       floorPut = subst (λ (b : Bounds). FootingPut (entriesOf o r (e ∷ h)) (b .«floor_footing»)) (sym (did .box)) (step .floorPut (entriesOf o r h) (reached .floorPut));
       roofPut = subst (λ (b : Bounds). FootingPut (entriesOf o r (e ∷ h)) (b .«roof_footing»)) (sym (did .box)) (step .roofPut (entriesOf o r h) (reached .roofPut));
       budget = budget;

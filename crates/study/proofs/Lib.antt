@@ -8,6 +8,7 @@ pub mod Named
 pub mod Order
 pub mod Putting
 pub mod SearchLaw
+pub mod Searching
 pub mod Seeking
 pub mod Stepped
 pub mod Ways

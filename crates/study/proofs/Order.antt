@@ -52,10 +52,10 @@ at-most-eight p q n h i = at (cases-lt i 8)
 pub between-from : (box : Bounds) (p : List ℕ) → length (box .floor) ≡ 8 → length p ≡ 8 → firstOutside box p ≡ None → Between box p
 between-from box p nf np e =
     let sides : (i : ℕ) → i < 8 → (rankOf (box .floor) i ≤ rankOf p i) × (rankOf p i ≤ rankOf (box .roof) i) =
-      λ i h.
-        let s : 0 + i ≡ i = omega arith in
-        let parts = or-parts _ _ (ap (outsideAt box p) (sym s) ∙ none-passes 8 0 (outsideAt box p) e i h) in
-        (ltb-false (rankOf p i) (rankOf (box .floor) i) (parts .0), ltb-false (rankOf (box .roof) i) (rankOf p i) (parts .1)) in
+    λ i h.
+    let s : 0 + i ≡ i = omega arith in
+    let parts = or-parts _ _ (ap (outsideAt box p) (sym s) ∙ none-passes 8 0 (outsideAt box p) e i h) in
+    (ltb-false (rankOf p i) (rankOf (box .floor) i) (parts .0), ltb-false (rankOf (box .roof) i) (rankOf p i) (parts .1)) in
     (at-most-eight (box .floor) p nf (λ i h. sides i h .0), at-most-eight p (box .roof) np (λ i h. sides i h .1))
 
 -- what lies below a point is one

@@ -117,30 +117,33 @@ module _ {M V : Type 0} (o : Order M V) (r : Rules M) (h : List (Event M V)) (e 
     searched-long : Searched o r h e
     searched-long = record {
       settled = λ c t.
-        let found = settled-out o r (e .before) (e .strip) (e .log) (count ran) c (ran .outcome) (sym told ∙ t) in
-        let fixed = settled-is-fixed F (r .sizes (e .before .map)) d (e .before .bounds) (e .before .left) (length (e .log)) sound (found .0) (found .1) in
-        (found .0, record { inBox = fixed .0; fixed = fixed .2; shown = shows ∙ ap (foundStrip o r (e .before) (e .strip) (e .log)) (found .1) });
+          let found = settled-out o r (e .before) (e .strip) (e .log) (count ran) c (ran .outcome) (sym told ∙ t) in
+          let fixed = settled-is-fixed F (r .sizes (e .before .map)) d (e .before .bounds) (e .before .left) (length (e .log)) sound (found .0) (found .1) in
+          (found .0, record { inBox = fixed .0; fixed = fixed .2; shown = shows ∙ ap (foundStrip o r (e .before) (e .strip) (e .log)) (found .1) });
       pair = λ c k t.
-        let found = pair-out o r (e .before) (e .strip) (e .log) (count ran) c (suc k) (ran .outcome) (sym told ∙ t) in
-        let proof = pair-is-contradiction F (r .sizes (e .before .map)) d (e .before .bounds) (e .before .left) (length (e .log)) sound (found .0) (found .1) (found .2) (found .3) in
-        let s : found .2 ≡ k = omega (arith, found .4) in
-        (found .0, found .1, record {
-          putLow = was-put (found .0) (proof .0 .putLow);
-          putHigh = was-put (found .1) (proof .0 .putHigh);
-          answeredLow = proof .0 .trueLow;
-          answeredHigh = proof .0 .trueHigh;
-          inOrder = proof .0 .points;
-          against = subst (λ i. rankOf (found .1 .answer) i < rankOf (found .0 .answer) i) s (proof .0 .answers);
-          shown = shows ∙ ap (foundStrip o r (e .before) (e .strip) (e .log)) (found .3);
-        });
+          let found = pair-out o r (e .before) (e .strip) (e .log) (count ran) c (suc k) (ran .outcome) (sym told ∙ t) in
+          let proof = pair-is-contradiction F (r .sizes (e .before .map)) d (e .before .bounds) (e .before .left) (length (e .log)) sound (found .0) (found .1) (found .2) (found .3) in
+          let s : found .2 ≡ k = omega (arith, found .4) in (
+            found .0,
+            found .1,
+            record {
+              putLow = was-put (found .0) (proof .0 .putLow);
+              putHigh = was-put (found .1) (proof .0 .putHigh);
+              answeredLow = proof .0 .trueLow;
+              answeredHigh = proof .0 .trueHigh;
+              inOrder = proof .0 .points;
+              against = subst (λ i. rankOf (found .1 .answer) i < rankOf (found .0 .answer) i) s (proof .0 .answers);
+              shown = shows ∙ ap (foundStrip o r (e .before) (e .strip) (e .log)) (found .3);
+            },
+          );
       monotone = λ m c k t.
-        let found = pair-out o r (e .before) (e .strip) (e .log) (count ran) c k (ran .outcome) (sym told ∙ t) in
-        monotone-has-no-pair F (r .sizes (e .before .map)) d (e .before .bounds) (e .before .left) (length (e .log)) sound m (found .0) (found .1) (found .2) (found .3);
+          let found = pair-out o r (e .before) (e .strip) (e .log) (count ran) c k (ran .outcome) (sym told ∙ t) in
+          monotone-has-no-pair F (r .sizes (e .before .map)) d (e .before .bounds) (e .before .left) (length (e .log)) sound m (found .0) (found .1) (found .2) (found .3);
       once = subst NoneTwice (sym asked) (no-question-twice F (r .sizes (e .before .map)) d (e .before .bounds) (e .before .left) (length (e .log)) sound);
       few = subst (λ qs. length qs ≤ product d (e .before .bounds)) (sym asked) (questions-are-few F (r .sizes (e .before .map)) d (e .before .bounds) (e .before .left) (length (e .log)) sound);
       enough = λ room logRoom leftRoom.
-        let never = enough-suffices F (r .sizes (e .before .map)) d (e .before .bounds) (e .before .left) (length (e .log)) sound leftRoom logRoom in
-        at (fault-only o r (e .before) (e .strip) (e .log) (count ran) (ran .outcome) (never .0) (never .1));
+          let never = enough-suffices F (r .sizes (e .before .map)) d (e .before .bounds) (e .before .left) (length (e .log)) sound leftRoom logRoom in
+          at (fault-only o r (e .before) (e .strip) (e .log) (count ran) (ran .outcome) (never .0) (never .1));
     }
       where
         at : ((report : Report) × (foundReply o r (e .before) (e .strip) (e .log) (count ran) (ran .outcome) ≡ Ok report)) ⊎ ((f : Fault) × (c : ℕ) × (foundReply o r (e .before) (e .strip) (e .log) (count ran) (ran .outcome) ≡ Err (Faulted f c))) → ((report : Report) × (e .reply ≡ Ok report)) ⊎ ((f : Fault) × (c : ℕ) × (e .reply ≡ Err (Faulted f c)))

@@ -75,9 +75,15 @@ module _ {M V : Type 0} (o : Order M V) (r : Rules M) (laws : RulesLaws r) (s : 
         floor = subst (λ (x : Bounds). AtMost (s .bounds .floor) (x .floor)) (sym box) (between .0);
         roof = subst (λ (x : Bounds). AtMost (x .roof) (s .bounds .roof)) (sym box) (at-most-refl (s .bounds .roof));
         sound = subst (Sound F (r .sizes (s .map)) (r .dims (s .map))) (sym box) (record {
-          some = sound .some; most = sound .most; unused = sound .unused; answers = sound .answers;
-          floorPoint = point; roofPoint = sound .roofPoint; ordered = between .1;
-          floorStands = (at-most-refl (e .point), rises, t); roofStands = sound .roofStands;
+          some = sound .some;
+          most = sound .most;
+          unused = sound .unused;
+          answers = sound .answers;
+          floorPoint = point;
+          roofPoint = sound .roofPoint;
+          ordered = between .1;
+          floorStands = (at-most-refl (e .point), rises, t);
+          roofStands = sound .roofStands;
         });
         floorPut = λ es m. subst (λ (x : Bounds). FootingPut (D .entries ++ es) (x .«floor_footing»)) (sym box) (subst (λ new. FootingPut (new ++ es) (Some e)) (sym entries) (inl refl));
         roofPut = λ es m. subst (λ (x : Bounds). FootingPut (D .entries ++ es) (x .«roof_footing»)) (sym box) (kept-footing (D .entries) es (s .bounds .«roof_footing») m);
@@ -89,9 +95,15 @@ module _ {M V : Type 0} (o : Order M V) (r : Rules M) (laws : RulesLaws r) (s : 
         floor = subst (λ (x : Bounds). AtMost (s .bounds .floor) (x .floor)) (sym box) (at-most-refl (s .bounds .floor));
         roof = subst (λ (x : Bounds). AtMost (x .roof) (s .bounds .roof)) (sym box) (between .1);
         sound = subst (Sound F (r .sizes (s .map)) (r .dims (s .map))) (sym box) (record {
-          some = sound .some; most = sound .most; unused = sound .unused; answers = sound .answers;
-          floorPoint = sound .floorPoint; roofPoint = point; ordered = between .0;
-          floorStands = sound .floorStands; roofStands = (falls, at-most-refl (e .point), t);
+          some = sound .some;
+          most = sound .most;
+          unused = sound .unused;
+          answers = sound .answers;
+          floorPoint = sound .floorPoint;
+          roofPoint = point;
+          ordered = between .0;
+          floorStands = sound .floorStands;
+          roofStands = (falls, at-most-refl (e .point), t);
         });
         floorPut = λ es m. subst (λ (x : Bounds). FootingPut (D .entries ++ es) (x .«floor_footing»)) (sym box) (kept-footing (D .entries) es (s .bounds .«floor_footing») m);
         roofPut = λ es m. subst (λ (x : Bounds). FootingPut (D .entries ++ es) (x .«roof_footing»)) (sym box) (subst (λ new. FootingPut (new ++ es) (Some e)) (sym entries) (inl refl));

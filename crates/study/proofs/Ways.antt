@@ -152,11 +152,11 @@ module _ {M V : Type 0} (o : Order M V) (r : Rules M) (laws : RulesLaws r) (s : 
           way-point (pointInBox o r s (length strip) values) (λ q. withAnswer o r s strip log q (λ e. moves o r s strip log e (floorAt e (s .bounds)) (firstAbove (e .point) (e .answer))))
           (inside-unput (s .bounds) (pointNamed o r s (length strip) values) (unput-named (length strip) values))
           (λ q e. let at = in-box values q e in
-            way-answer q (λ e. moves o r s strip log e (floorAt e (s .bounds)) (firstAbove (e .point) (e .answer))) (λ y t. way-moves (record { point = q; answer = y }) (floorAt (record { point = q; answer = y }) (s .bounds)) (firstAbove q y) t (at .0) (λ none. up (at .1) (at-most-from q y (at .0 ∙ sym (answer-eight q y t)) none))))
+          way-answer q (λ e. moves o r s strip log e (floorAt e (s .bounds)) (firstAbove (e .point) (e .answer))) (λ y t. way-moves (record { point = q; answer = y }) (floorAt (record { point = q; answer = y }) (s .bounds)) (firstAbove q y) t (at .0) (λ none. up (at .1) (at-most-from q y (at .0 ∙ sym (answer-eight q y t)) none))))
 
       pub way-lower : (values : List V) → Way (lowered o r s strip log values)
       way-lower values =
           way-point (pointInBox o r s (length strip) values) (λ q. withAnswer o r s strip log q (λ e. moves o r s strip log e (roofAt e (s .bounds)) (firstAbove (e .answer) (e .point))))
           (inside-unput (s .bounds) (pointNamed o r s (length strip) values) (unput-named (length strip) values))
           (λ q e. let at = in-box values q e in
-            way-answer q (λ e. moves o r s strip log e (roofAt e (s .bounds)) (firstAbove (e .answer) (e .point))) (λ y t. way-moves (record { point = q; answer = y }) (roofAt (record { point = q; answer = y }) (s .bounds)) (firstAbove y q) t (at .0) (λ none. down (at .1) (at-most-from y q (answer-eight q y t ∙ sym (at .0)) none))))
+          way-answer q (λ e. moves o r s strip log e (roofAt e (s .bounds)) (firstAbove (e .answer) (e .point))) (λ y t. way-moves (record { point = q; answer = y }) (roofAt (record { point = q; answer = y }) (s .bounds)) (firstAbove y q) t (at .0) (λ none. down (at .1) (at-most-from y q (answer-eight q y t ∙ sym (at .0)) none))))

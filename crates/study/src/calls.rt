@@ -156,7 +156,11 @@ impl<M: Map> Study<M> {
     }
 
     // Searches the box for a point that is its own answer. Each answered question is the next entry of the record.
-    pub fn search(&mut self, strip: &mut [M::Value], record: &mut [Entry]) -> Result<Report, Refusal>
+    pub fn search(
+        &mut self,
+        strip: &mut [M::Value],
+        record: &mut [Entry],
+    ) -> Result<Report, Refusal>
         ensures { λ r. ⌜ Accounted (M·Chain .order) (M·Map .rules) (event searching (now (self .entry)) (now (strip .entry)) (now («record» .entry)) r (now (self .exit)) (now (strip .exit)) (now («record» .exit))) ⌝ }
     {
         if strip.len() < 4 * self.map.dims() {

@@ -21,7 +21,7 @@ returns-in-Break-point g c =
     let refusal = c .in-Break-point .field-0 .0 in
     accounted o r (g .M·Map·met .rulesLaws) _
     (did-unput o r s strip [] (ask values) (c .from-residual .result) refusal (p .1 ∙ ap Err (p .2))
-      (point-refused o r s strip [] (ask values) (pointNamed o r s (length strip) values) refusal (λ q. withAnswer o r s strip [] q (λ e. answered o r s strip [] e (Ok (Answered 1)) (s .bounds))) (c .in-Break-point .ensures tt)))
+    (point-refused o r s strip [] (ask values) (pointNamed o r s (length strip) values) refusal (λ q. withAnswer o r s strip [] q (λ e. answered o r s strip [] e (Ok (Answered 1)) (s .bounds))) (c .in-Break-point .ensures tt)))
 
 pub returns-in-Break-answer : need.returns-in-Break-answer
 returns-in-Break-answer g c =
@@ -36,7 +36,7 @@ returns-in-Break-answer g c =
     let told = c .in-Break-answer .ensures tt in
     accounted o r (g .M·Map·met .rulesLaws) _
     (did-put o r s strip [] (ask values) q (c .put .last .self) (told .moved) (c .from-residual-in-Break-answer .result) refusal (p .1 ∙ ap Err (p .2))
-      (answer-refused o r s strip [] (ask values) (pointNamed o r s (length strip) values) q refusal (λ e. answered o r s strip [] e (Ok (Answered 1)) (s .bounds)) (c .in-Continue-point .ensures tt) (told .told)))
+    (answer-refused o r s strip [] (ask values) (pointNamed o r s (length strip) values) q refusal (λ e. answered o r s strip [] e (Ok (Answered 1)) (s .bounds)) (c .in-Continue-point .ensures tt) (told .told)))
 
 pub returns : need.returns
 returns g c =
@@ -52,4 +52,4 @@ returns g c =
     let is = answer-given o r s strip [] (ask values) (pointNamed o r s (length strip) values) q y (λ e. answered o r s strip [] e (Ok (Answered 1)) (s .bounds)) (c .in-Continue-point .ensures tt) (told .told) in
     accounted o r (g .M·Map·met .rulesLaws) _
     (did-answer o r s strip [] (ask values) q t (told .moved) y (Ok (Answered 1)) t (c .show .last .strip) (told .told)
-      (is ∙ ap (answered o r s strip [] (record { point = q; answer = y }) (Ok (Answered 1))) (sym (told .moved .box))) refl refl (c .show .ensures))
+    (is ∙ ap (answered o r s strip [] (record { point = q; answer = y }) (Ok (Answered 1))) (sym (told .moved .box))) refl refl (c .show .ensures))
