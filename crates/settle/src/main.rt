@@ -1,15 +1,23 @@
-// settle: answers points of a panel's job sheet.
+// settle: a study of one panel's job sheet, from its first call to its last.
 use chains::Chain;
 use maps::Job;
 use maps::Jobs;
 use maps::JobsChain;
 use maps::JobsMap;
-use maps::Map;
 use maps::Memo;
 use maps::MemoChain;
 use maps::MemoMap;
+use points::Entry;
 use std::alloc::Global;
 use std::error::AnyError;
+use study::Refusal;
+use study::Report;
+use study::Study;
+
+const BLANK: Entry = Entry {
+    point: [0; 8],
+    answer: [0; 8],
+};
 
 // The panel: in ticks of 50 microseconds, a job of 2 ticks every 10, and below it one of 3 every 20 that holds the lock for 1.
 fn panel(heap: Global) -> Result<Jobs, AnyError> {
@@ -28,24 +36,38 @@ fn panel(heap: Global) -> Result<Jobs, AnyError> {
     }
 }
 
-// What two response times in microseconds are answered by, none if they are no point.
-fn answer(map: &mut Memo<Jobs>, first: u32, second: u32) -> Option<(u32, u32)> {
-    let question = [map.rank(first)?, map.rank(second)?, 0, 0, 0, 0, 0, 0];
-    match map.put(question) {
-        Ok(ranks) => Some((map.member(ranks[0])?, map.member(ranks[1])?)),
-        Err(_) => None,
+// One line for a reply: what was found, or why the call was refused.
+fn tell(rt: &LibcRuntime, done: &str, reply: Result<Report, Refusal>, strip: &[u32; 32]) -> Result<(), AnyError> {
+    let (a, b) = (strip[0], strip[1]);
+    match reply {
+        Ok(Report::Answered { .. }) => println!(rt, "{done} {a} {b}")?,
+        Ok(Report::Settled { count }) => println!(rt, "settled {count} {a} {b}")?,
+        Ok(Report::Pair { count, coordinate }) => println!(rt, "pair {count} {coordinate}")?,
+        Err(refusal) => {
+            let told = refusal.details();
+            let (number, a, b, count) = (told.number, told.a, told.b, told.count);
+            println!(rt, "refused {number} {a} {b} {count}")?
+        }
     }
+    Ok(())
 }
 
 fn main(rt: LibcRuntime) -> Result<(), AnyError> {
-    let mut map = Memo::new(panel(rt.alloc())?);
+    let map = Memo::new(panel(rt.alloc())?);
     let kind = Memo::<Jobs>::kind_letter();
     println!(rt, "kind {kind}")?;
-    for (first, second) in [(100, 100), (150, 250), (150, 500), (0, 0), (550, 1050)] {
-        match answer(&mut map, first, second) {
-            Some((a, b)) => println!(rt, "answer {a} {b}")?,
-            None => println!(rt, "no answer")?,
-        }
-    }
+    let mut study = Study::new(map, 20);
+    let mut strip = [0; 32];
+    let mut record = [BLANK; 64];
+    let raised = study.raise(&[100, 100], &mut strip);
+    tell(&rt, "raised", raised, &strip)?;
+    let lowered = study.lower(&[150, 200], &mut strip);
+    tell(&rt, "lowered", lowered, &strip)?;
+    let asked = study.ask(&[120, 100], &mut strip);
+    tell(&rt, "answer", asked, &strip)?;
+    let found = study.search(&mut strip, &mut record);
+    tell(&rt, "settled", found, &strip)?;
+    let (_, left) = study.finish();
+    println!(rt, "left {left}")?;
     Ok(())
 }
