@@ -37,7 +37,12 @@ fn panel(heap: Global) -> Result<Jobs, AnyError> {
 }
 
 // One line for a reply: what was found, or why the call was refused.
-fn tell(rt: &LibcRuntime, done: &str, reply: Result<Report, Refusal>, strip: &[u32; 32]) -> Result<(), AnyError> {
+fn tell(
+    rt: &LibcRuntime,
+    done: &str,
+    reply: Result<Report, Refusal>,
+    strip: &[u32; 32],
+) -> Result<(), AnyError> {
     let (a, b) = (strip[0], strip[1]);
     match reply {
         Ok(Report::Answered { .. }) => println!(rt, "{done} {a} {b}")?,

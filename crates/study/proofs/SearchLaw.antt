@@ -3,7 +3,7 @@ use mathlib.Core.Path.{_≡_, refl, sym, ap, subst, _∙_}
 use mathlib.Core.Bool.{Bool, true, false, cond}
 use mathlib.Core.List.{List, [], _∷_, _++_}
 use mathlib.Core.Logic.{_⊎_, inl, inr}
-use Prim.Native.Nat.{ℕ, zero, suc, _*_, _≤_, _<_}
+use Prim.Native.Nat.{ℕ, zero, suc, _*_, _-_, _≤_, _<_}
 use native.Mathlib.Omega.{arith}
 use lib.Dec.{ltb}
 use lib.ListN.{length, take}
@@ -121,9 +121,9 @@ module _ {M V : Type 0} (o : Order M V) (r : Rules M) (h : List (Event M V)) (e 
           let fixed = settled-is-fixed F (r .sizes (e .before .map)) d (e .before .bounds) (e .before .left) (length (e .log)) sound (found .0) (found .1) in
           (found .0, record { inBox = fixed .0; fixed = fixed .2; shown = shows ∙ ap (foundStrip o r (e .before) (e .strip) (e .log)) (found .1) });
       pair = λ c k t.
-          let found = pair-out o r (e .before) (e .strip) (e .log) (count ran) c (suc k) (ran .outcome) (sym told ∙ t) in
+          let found = pair-out o r (e .before) (e .strip) (e .log) (count ran) c k (ran .outcome) (sym told ∙ t) in
           let proof = pair-is-contradiction F (r .sizes (e .before .map)) d (e .before .bounds) (e .before .left) (length (e .log)) sound (found .0) (found .1) (found .2) (found .3) in
-          let s : found .2 ≡ k = omega (arith, found .4) in (
+          let s : found .2 ≡ k - 1 = omega (arith, found .4) in (
             found .0,
             found .1,
             record {
@@ -132,6 +132,7 @@ module _ {M V : Type 0} (o : Order M V) (r : Rules M) (h : List (Event M V)) (e 
               answeredLow = proof .0 .trueLow;
               answeredHigh = proof .0 .trueHigh;
               inOrder = proof .0 .points;
+              named = omega (arith, found .4, proof .1);
               against = subst (λ i. rankOf (found .1 .answer) i < rankOf (found .0 .answer) i) s (proof .0 .answers);
               shown = shows ∙ ap (foundStrip o r (e .before) (e .strip) (e .log)) (found .3);
             },

@@ -2,7 +2,7 @@
 use mathlib.Core.Path.{_≡_}
 use mathlib.Core.Logic.{_⊎_}
 use mathlib.Core.List.{List, [], _∷_}
-use Prim.Native.Nat.{ℕ, suc, _+_, _*_, _≤_, _<_}
+use Prim.Native.Nat.{ℕ, _+_, _-_, _*_, _≤_, _<_}
 use lib.ListN.{length, take}
 use Rattle.std.specs.declared.result.Result.the-variants.{Ok, Err}
 use Rattle.chains.specs.Order.{Order}
@@ -33,21 +33,22 @@ module _ {M V : Type 0} (o : Order M V) (r : Rules M) where
     pub fixed : r .meaning (e .before .map) q ≡ Ok q
     pub shown : Shows e (take (r .dims (e .before .map)) q)
 
-  -- two points that this call or earlier ones put, the first at most the second but answered higher in coordinate k
+  -- two points that this call or earlier ones put, the first at most the second but answered higher in coordinate k, counted from 1
   pub record TruePair (h : List (Event M V)) (e : Event M V) (k : ℕ) (low high : Entry) : Type 0 where
     pub putLow : Among low (entriesOf o r (e ∷ h))
     pub putHigh : Among high (entriesOf o r (e ∷ h))
     pub answeredLow : r .meaning (e .before .map) (low .point) ≡ Ok (low .answer)
     pub answeredHigh : r .meaning (e .before .map) (high .point) ≡ Ok (high .answer)
     pub inOrder : AtMost (low .point) (high .point)
-    pub against : rankOf (high .answer) k < rankOf (low .answer) k
+    pub named : (1 ≤ k) × (k ≤ r .dims (e .before .map))
+    pub against : rankOf (high .answer) (k - 1) < rankOf (low .answer) (k - 1)
     pub shown : Shows e (pairRanks (r .dims (e .before .map)) low high)
 
   -- what is promised of a search
   pub record Searched (h : List (Event M V)) (e : Event M V) : Type 0 where
     -- it gives a fixed point in the box, or a true pair, and never a pair of a monotone map
     pub settled : (c : ℕ) → e .reply ≡ Ok (Settled c) → (q : List ℕ) × FixedPoint e q
-    pub pair : (c k : ℕ) → e .reply ≡ Ok (Pair c (suc k)) → (low : Entry) × (high : Entry) × TruePair h e k low high
+    pub pair : (c k : ℕ) → e .reply ≡ Ok (Pair c k) → (low : Entry) × (high : Entry) × TruePair h e k low high
     pub monotone : Monotone (r .meaning (e .before .map)) → (c k : ℕ) → e .reply ≡ Ok (Pair c k) → ⊥
     -- no question is put twice, and there are at most as many as the product of the binary digits of the widths
     pub once : NoneTwice (due o r e .questions)
