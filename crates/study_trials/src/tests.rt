@@ -1,0 +1,6 @@
+// Hand-worked cases.
+mod boxes;
+mod layers;
+mod lengths;
+mod rows;
+mod sheets;

@@ -1,0 +1,4 @@
+pub mod Fixed
+pub mod Jobs
+pub mod Tables
+pub mod Worked

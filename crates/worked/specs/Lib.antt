@@ -1,0 +1,3 @@
+pub mod Examples
+pub mod Sheets
+pub mod Anew
