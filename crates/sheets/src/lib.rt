@@ -1,0 +1,7 @@
+// Sheet files: what a text file says about a panel, or which fault it has and in which line.
+pub mod classes;
+pub mod faults;
+pub mod word;
+
+pub use faults::Fault;
+pub use faults::Unread;
