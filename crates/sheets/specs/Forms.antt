@@ -4,6 +4,8 @@ use mathlib.Core.List.{List, [], _∷_}
 use Prim.Native.Nat.{ℕ, _+_, _-_, _*_}
 use lib.Dec.{eqb, leb}
 use lib.ListN.{length, getD}
+use Rattle.std.specs.declared.option.Option.{Option}
+use Rattle.std.specs.declared.option.Option.the-variants.{None, Some}
 use Rattle.sheets.specs.Classes.{classOf, sameClass}
 use Rattle.sheets.specs.declared.classes.Class.{Class}
 use Rattle.sheets.specs.declared.classes.Class.the-variants.{Digit, Capital, Small}
@@ -54,3 +56,31 @@ meant (Number digits value) = number value
 meant (Letters text) = letters (text .now)
 meant (Mark text code) = mark code
 meant (Mixed text) = mixed
+
+abbrev pub nameOf : Form → Option (List ℕ)
+nameOf (name text) = Some text
+nameOf (number n) = None
+nameOf (letters text) = None
+nameOf (mark code) = None
+nameOf mixed = None
+
+abbrev pub numberOf : Form → Option ℕ
+numberOf (name text) = None
+numberOf (number n) = Some n
+numberOf (letters text) = None
+numberOf (mark code) = None
+numberOf mixed = None
+
+abbrev pub lettersOf : Form → Option (List ℕ)
+lettersOf (name text) = None
+lettersOf (number n) = None
+lettersOf (letters text) = Some text
+lettersOf (mark code) = None
+lettersOf mixed = None
+
+abbrev pub markOf : Form → Option ℕ
+markOf (name text) = None
+markOf (number n) = None
+markOf (letters text) = None
+markOf (mark code) = Some code
+markOf mixed = None

@@ -1,6 +1,8 @@
 // Sheet files: what a text file says about a panel, or which fault it has and in which line.
 pub mod classes;
+pub mod dues;
 pub mod faults;
+pub mod scanner;
 pub mod word;
 
 pub use faults::Fault;

@@ -2,7 +2,8 @@
 ghost use mathlib.Core.Path.{_≡_};
 ghost use Prim.Native.Nat.{_≤_};
 ghost use lib.ListN.{length};
-ghost use Rattle.sheets.specs.Forms.{allOf, formOf, isMark, isNumeral, meant, numberAfter};
+ghost use Rattle.std.specs.Options.{mapped};
+ghost use Rattle.sheets.specs.Forms.{allOf, formOf, isMark, isNumeral, lettersOf, markOf, meant, nameOf, numberAfter, numberOf};
 use crate::classes::Class;
 use crate::classes::ClassPartialEq;
 use crate::classes::class_of;
@@ -84,6 +85,46 @@ impl<'a> Word<'a> {
             }
         } else {
             Word::Mixed(text)
+        }
+    }
+
+    // The text of a name.
+    pub fn name(self) -> Option<&'a [u8]>
+        ensures { λ r. ⌜ mapped (λ t. t .now) r ≡ nameOf (meant (self .entry)) ⌝ }
+    {
+        match self {
+            Word::Name(text) => Some(text),
+            _ => None,
+        }
+    }
+
+    // The number that digits write.
+    pub fn number(self) -> Option<u64>
+        ensures { λ r. ⌜ r ≡ numberOf (meant (self .entry)) ⌝ }
+    {
+        match self {
+            Word::Number { digits: _, value } => Some(value),
+            _ => None,
+        }
+    }
+
+    // Capital letters.
+    pub fn letters(self) -> Option<&'a [u8]>
+        ensures { λ r. ⌜ mapped (λ t. t .now) r ≡ lettersOf (meant (self .entry)) ⌝ }
+    {
+        match self {
+            Word::Letters(text) => Some(text),
+            _ => None,
+        }
+    }
+
+    // A lock mark.
+    pub fn mark(self) -> Option<char>
+        ensures { λ r. ⌜ r ≡ markOf (meant (self .entry)) ⌝ }
+    {
+        match self {
+            Word::Mark { text: _, code } => Some(char::from(code)),
+            _ => None,
         }
     }
 }
