@@ -13,8 +13,8 @@ use Rattle.std.proofs.shelf.Lists.{drop-all}
 use Rattle.std.proofs.shelf.Tests.{and-from, and-left, and-right, cases-lt, cond-false, cond-true, le-ltb, lt-ltb}
 use Rattle.sheets.specs.Dues.{endFrom, lineEnds}
 use Rattle.sheets.specs.Forms.{Form, formOf}
-use Rattle.sheets.specs.Lines.{lineFrom, neat, nextLine, upTo}
-use Rattle.sheets.specs.Reading.{State}
+use Rattle.sheets.specs.Lines.{fileEndFrom, fileEnds, lineFrom, neat, nextLine, upTo}
+use Rattle.sheets.specs.Reading.{State, andThen, refuse}
 use Rattle.sheets.specs.Words.{afterWord, wordDue, wordFrom, wordOf}
 use Rattle.sheets.specs.declared.faults.Fault.the-variants.{Text, Contents, Form as Wrong}
 
@@ -73,5 +73,22 @@ unfolding lineEnds
 word-over s h = from (s .left) h
   where
     from : (left : List ℕ) → 0 < length left → endFrom left s ≡ Err (Wrong, s .line)
+    from [] h = absurd (omega arith)
+    from (b ∷ bs) h = refl
+
+-- no line is over, or one is
+pub file-ends : (s : State) → length (s .rest) ≡ 0 → fileEnds s ≡ Ok (tt, s)
+unfolding fileEnds
+file-ends s e = from (s .rest) e
+  where
+    from : (rest : List ℕ) → length rest ≡ 0 → fileEndFrom rest s ≡ Ok (tt, s)
+    from [] e = refl
+    from (b ∷ bs) e = absurd (omega arith)
+
+pub line-over : (s : State) → 0 < length (s .rest) → fileEnds s ≡ andThen (nextLine s) (λ _. refuse Contents)
+unfolding fileEnds
+line-over s h = from (s .rest) h
+  where
+    from : (rest : List ℕ) → 0 < length rest → fileEndFrom rest s ≡ andThen (nextLine s) (λ _. refuse Contents)
     from [] h = absurd (omega arith)
     from (b ∷ bs) h = refl

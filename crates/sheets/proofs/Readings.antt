@@ -1,6 +1,8 @@
 -- What is read in steps: a fault of a step is the fault of the whole.
 use mathlib.Core.Path.{_≡_, refl, sym, ap, _∙_}
+use mathlib.Core.Bool.{Bool, true, false, cond}
 use Prim.Native.Nat.{ℕ}
+use Rattle.std.proofs.shelf.Tests.{both-ways}
 use Rattle.std.specs.declared.result.Result.{Result}
 use Rattle.std.specs.declared.result.Result.the-variants.{Ok, Err}
 use Rattle.std.specs.Options.{mapped}
@@ -18,9 +20,24 @@ pub stops : {X Y : Type 0} (d : Result (X × State) Told) (next : X → Reader Y
 stops d next (Bad f line) h = ap (λ r. andThen r next) h
 stops d next Memory h = h
 
--- the step is read, and the rest goes on from there
-pub goes : {X Y : Type 0} (d : Result (X × State) Told) (next : X → Reader Y) (x : X) (s : State) → d ≡ Ok (x, s) → andThen d next ≡ next x s
-goes d next x s h = ap (λ r. andThen r next) h
+-- the step is read, and what comes after it has the fault
+pub on : {X Y : Type 0} (d : Result (X × State) Told) (next : X → Reader Y) (x : X) (s : State) (e : Unread) → d ≡ Ok (x, s) → Tells (next x s) e → Tells (andThen d next) e
+on d next x s (Bad f line) h t = ap (λ r. andThen r next) h ∙ t
+on d next x s Memory h t = t
+
+-- a test decides how it goes on
+pub passes : {X : Type 0} (b : Bool) (then′ else′ : Reader X) (s : State) (e : Unread) → true ≡ b → Tells (then′ s) e → Tells (cond b then′ else′ s) e
+passes true then′ else′ s e h t = t
+passes false then′ else′ s e h t = absurd (both-ways false refl (sym h))
+
+pub fails : {X : Type 0} (b : Bool) (then′ else′ : Reader X) (s : State) (e : Unread) → false ≡ b → Tells (else′ s) e → Tells (cond b then′ else′ s) e
+fails true then′ else′ s e h t = absurd (both-ways true (sym h) refl)
+fails false then′ else′ s e h t = t
+
+-- what is read one way is read the other way
+pub like : {X : Type 0} (d d′ : Result (X × State) Told) (e : Unread) → d′ ≡ d → Tells d e → Tells d′ e
+like d d′ (Bad f line) h t = h ∙ t
+like d d′ Memory h t = t
 
 -- a word of the form due, and one that is not
 pub picked : {X Y : Type 0} (pick : Form → Option X) (meaning : Y → X) (d : Result (Form × State) Told) (form : Form) (s : State) (y : Y) → d ≡ Ok (form, s) → mapped meaning (Some y) ≡ pick form → andThen d (λ f. ofForm (pick f)) ≡ Ok (meaning y, s)

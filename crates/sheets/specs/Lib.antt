@@ -1,7 +1,10 @@
 pub mod Classes
+pub mod Contents
 pub mod Dues
 pub mod Faults
 pub mod Forms
+pub mod JobsBody
 pub mod Lines
+pub mod Many
 pub mod Reading
 pub mod Words

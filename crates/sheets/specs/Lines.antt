@@ -9,7 +9,7 @@ use Rattle.std.specs.declared.option.Option.the-variants.{None, Some}
 use Rattle.std.specs.declared.result.Result.{Result}
 use Rattle.std.specs.declared.result.Result.the-variants.{Ok, Err}
 use Rattle.sheets.specs.Classes.{classOf}
-use Rattle.sheets.specs.Reading.{Reader, State, Told}
+use Rattle.sheets.specs.Reading.{Reader, State, Told, _>>_, give, refuse}
 use Rattle.sheets.specs.declared.classes.Class.{Class}
 use Rattle.sheets.specs.declared.classes.Class.the-variants.{LineEnd, Blank, Digit, Capital, Small, Minus, Other}
 use Rattle.sheets.specs.declared.faults.Fault.the-variants.{Text, Contents}
@@ -52,3 +52,11 @@ lineFrom (b ∷ bs) line = cut (upTo 10 (b ∷ bs)) (b ∷ bs) line
 -- goes to the next line; it is missing where no byte is left
 unfoldable pub nextLine : Reader (Unit {0})
 nextLine s = lineFrom (s .rest) (suc (s .line))
+
+abbrev pub fileEndFrom : List ℕ → Reader (Unit {0})
+fileEndFrom [] = give tt
+fileEndFrom (b ∷ bs) = nextLine >> refuse Contents
+
+-- no line is over
+unfoldable pub fileEnds : Reader (Unit {0})
+fileEnds s = fileEndFrom (s .rest) s

@@ -59,3 +59,12 @@ Tells d Memory = ⊥
 abbrev pub Takes : {X Y : Type 0} → (Y → X) → Result (X × State) Told → Result Y Unread → State → Type 0
 Takes meaning d (Ok y) after = d ≡ Ok (meaning y, after)
 Takes meaning d (Err e) after = Tells d e
+
+-- the same where memory may be wanting: then nothing is told of the file
+abbrev pub TellsOr : {X : Type 0} → Result (X × State) Told → Unread → Type 0
+TellsOr d (Bad f line) = d ≡ Err (f, line)
+TellsOr d Memory = Unit {0}
+
+abbrev pub Reads : {X Y : Type 0} → (Y → X) → Result (X × State) Told → Result Y Unread → State → Type 0
+Reads meaning d (Ok y) after = d ≡ Ok (meaning y, after)
+Reads meaning d (Err e) after = TellsOr d e

@@ -1,6 +1,8 @@
 // What can be wrong with a file.
 ghost use mathlib.Core.Path.{_≡_};
 ghost use Rattle.sheets.specs.Faults.{faultNumber};
+use std::alloc::AllocError;
+use std::alloc::Refused;
 
 #[derive(Clone, Copy, PartialEq, Eq, Debug)]
 pub enum Fault {
@@ -44,4 +46,16 @@ pub enum Unread {
     Bad { fault: Fault, line: usize },
     // there was no memory for the sheet
     Memory,
+}
+
+pub impl From<AllocError> for Unread as UnreadFromAlloc {
+    fn from(_error: AllocError) -> Unread {
+        Unread::Memory
+    }
+}
+
+pub impl<T: Drop> From<Refused<T>> for Unread as UnreadFromRefused {
+    fn from(_refused: Refused<T>) -> Unread {
+        Unread::Memory
+    }
 }

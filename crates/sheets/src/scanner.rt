@@ -8,7 +8,7 @@ ghost use Prim.Native.Nat.{_-_, _≤_};
 ghost use lib.ListN.{length};
 ghost use Rattle.std.specs.Vec.{made};
 ghost use Rattle.sheets.specs.Forms.{meant};
-ghost use Rattle.sheets.specs.Lines.{goesOn, neat, nextLine, upTo};
+ghost use Rattle.sheets.specs.Lines.{fileEnds, goesOn, neat, nextLine, upTo};
 ghost use Rattle.sheets.specs.Reading.{Takes, stateOf};
 ghost use Rattle.sheets.specs.Words.{wordDue};
 use crate::classes::Class;
@@ -115,6 +115,17 @@ impl<'a> Scanner<'a> {
             line,
         };
         Ok(())
+    }
+
+    // The end of the file.
+    pub fn file_end(&mut self) -> Result<(), Unread>
+        ensures { λ r. ⌜ Takes (λ u. u) (fileEnds (stateOf (now (self .entry)))) r (stateOf (now (self .exit))) ⌝ }
+    {
+        if self.rest.is_empty() {
+            return Ok(());
+        }
+        self.next_line()?;
+        Err(self.bad(Fault::Contents))
     }
 
     // The next word of the line.
