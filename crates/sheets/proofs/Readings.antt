@@ -11,7 +11,7 @@ use Rattle.std.specs.declared.option.Option.the-variants.{None, Some}
 use Rattle.sheets.specs.Dues.{ofForm}
 use Rattle.sheets.specs.Forms.{Form}
 use Rattle.sheets.specs.declared.faults.Fault.the-variants.{Form as Wrong}
-use Rattle.sheets.specs.Reading.{Reader, State, Takes, Tells, Told, andThen}
+use Rattle.sheets.specs.Reading.{Reader, State, Tells, TellsOr, Told, andThen}
 use Rattle.sheets.specs.declared.faults.Unread.{Unread}
 use Rattle.sheets.specs.declared.faults.Unread.the-variants.{Bad, Memory}
 
@@ -24,6 +24,23 @@ stops d next Memory h = h
 pub on : {X Y : Type 0} (d : Result (X × State) Told) (next : X → Reader Y) (x : X) (s : State) (e : Unread) → d ≡ Ok (x, s) → Tells (next x s) e → Tells (andThen d next) e
 on d next x s (Bad f line) h t = ap (λ r. andThen r next) h ∙ t
 on d next x s Memory h t = t
+
+-- the same where memory may be wanting
+pub stops-or : {X Y : Type 0} (d : Result (X × State) Told) (next : X → Reader Y) (e : Unread) → TellsOr d e → TellsOr (andThen d next) e
+stops-or d next (Bad f line) h = ap (λ r. andThen r next) h
+stops-or d next Memory h = h
+
+pub on-or : {X Y : Type 0} (d : Result (X × State) Told) (next : X → Reader Y) (x : X) (s : State) (e : Unread) → d ≡ Ok (x, s) → TellsOr (next x s) e → TellsOr (andThen d next) e
+on-or d next x s (Bad f line) h t = ap (λ r. andThen r next) h ∙ t
+on-or d next x s Memory h t = t
+
+pub like-or : {X : Type 0} (d d′ : Result (X × State) Told) (e : Unread) → d′ ≡ d → TellsOr d e → TellsOr d′ e
+like-or d d′ (Bad f line) h t = h ∙ t
+like-or d d′ Memory h t = t
+
+pub told-or : {X : Type 0} (d : Result (X × State) Told) (e : Unread) → Tells d e → TellsOr d e
+told-or d (Bad f line) h = h
+told-or d Memory h = absurd h
 
 -- a test decides how it goes on
 pub passes : {X : Type 0} (b : Bool) (then′ else′ : Reader X) (s : State) (e : Unread) → true ≡ b → Tells (then′ s) e → Tells (cond b then′ else′ s) e

@@ -1,6 +1,7 @@
 // What can be wrong with a file.
 ghost use mathlib.Core.Path.{_≡_};
 ghost use Rattle.sheets.specs.Faults.{faultNumber};
+ghost use Rattle.sheets.specs.declared.faults.Unread.the-variants.{Memory};
 use std::alloc::AllocError;
 use std::alloc::Refused;
 
@@ -49,12 +50,16 @@ pub enum Unread {
 }
 
 pub impl From<AllocError> for Unread as UnreadFromAlloc {
+    ghost converts = { λ _ r. r ≡ Memory };
+
     fn from(_error: AllocError) -> Unread {
         Unread::Memory
     }
 }
 
 pub impl<T: Drop> From<Refused<T>> for Unread as UnreadFromRefused {
+    ghost converts = { λ _ r. r ≡ Memory };
+
     fn from(_refused: Refused<T>) -> Unread {
         Unread::Memory
     }

@@ -56,3 +56,17 @@ fn job_lines(heap: Global, scanner: &mut Scanner, lines: u32) -> Result<Vec<Job>
     }
     Ok(jobs)
 }
+
+// A panel of `lines` lines: its step, then its jobs.
+pub(crate) fn jobs_body(heap: Global, scanner: &mut Scanner, lines: u32) -> Result<Jobs, Unread>
+    requires { ⌜ within 2 9 lines ≡ true ⌝ }
+    ensures { λ r. ⌜ Reads panelOf (jobsBody lines (stateOf (now (scanner .entry)))) r (stateOf (now (scanner .exit))) ⌝ }
+{
+    let step = step_line(scanner)?;
+    let jobs = job_lines(heap, scanner, lines - 1)?;
+    match Jobs::new(step, jobs) {
+        Ok(map) => Ok(map),
+        // the step is in its range, and there are 1 to 8 jobs
+        Err(_) => unreachable(),
+    }
+}
