@@ -1,16 +1,18 @@
 -- A job whose numbers are in their ranges is refused for its mark alone.
 use mathlib.Core.Path.{_≡_, refl, sym, ap, _∙_}
 use mathlib.Core.Bool.{Bool, true, false, cond, not}
-use Prim.Native.Nat.{ℕ}
+use Prim.Native.Nat.{ℕ, _-_}
+use Rattle.std.proofs.shelf.Ways.{tells}
 use native.Mathlib.Omega.{arith}
 use Rattle.std.specs.declared.option.Option.{Option}
 use Rattle.std.specs.declared.option.Option.the-variants.{None, Some}
 use Rattle.std.specs.declared.result.Result.{Result}
 use Rattle.std.specs.declared.result.Result.the-variants.{Ok, Err}
 use Rattle.chains.specs.TickOrder.{within}
-use Rattle.maps.specs.JobRanges.{jobFault, lockOf, marks}
+use Rattle.maps.specs.JobRanges.{jobFault, jobsFault, lockOf, marks}
 use Rattle.maps.specs.declared.jobs.faults.JobFault.{JobFault}
 use Rattle.maps.specs.declared.jobs.faults.JobFault.the-variants.{Mark}
+use Rattle.maps.specs.declared.jobs.faults.JobsFault.{JobsFault}
 use Rattle.maps.specs.declared.jobs.job.Job.{Job}
 use Rattle.maps.specs.declared.jobs.job.Lock.{Lock}
 use Rattle.sheets.specs.Dues.{numbered}
@@ -59,3 +61,12 @@ job-given run period limit hold mark lock s r e is = lock-given (lockOf mark) lo
 -- the job that was made has the numbers that were read
 pub terms-are : (job : Job) (run period limit hold : ℕ) (s : State) → job .run ≡ run → job .period ≡ period → job .limit ≡ limit → job .hold ≡ hold → _≡_ {A = Result (Terms × State) Told} (Ok (record { run = run; period = period; limit = limit; hold = hold; lock = job .lock }, s)) (Ok (termsOf job, s))
 terms-are job run period limit hold s a b c d = rw (← a, ← b, ← c, ← d)
+
+no-fault : (o : Option JobsFault) (f : JobsFault) → o ≡ None → o ≡ Some f → ⊥
+no-fault o f e h = let z : _≡_ {A = ℕ} 0 1 = cc in omega arith
+
+-- a step in its range, and 1 to 8 jobs, make a panel
+pub panel-fits : (step lines count : ℕ) (f : JobsFault) → within 1 1000 step ≡ true → within 2 9 lines ≡ true → count ≡ lines - 1 → jobsFault step count ≡ Some f → ⊥
+panel-fits step lines count f s l e h =
+    let fits : within 1 8 count ≡ true = grind (arith, tells) in
+    no-fault (jobsFault step count) f (rw (s, fits)) h

@@ -1,11 +1,14 @@
 -- Several lines of one kind, one after the other.
 use mathlib.Core.Path.{_≡_, refl, sym, ap, _∙_}
 use mathlib.Core.List.{List, [], _∷_, _++_}
-use Prim.Native.Nat.{ℕ, suc, _+_, _-_, _<_, _≤_}
+use Prim.Native.Nat.{ℕ, zero, suc, _+_, _-_, _<_, _≤_}
 use native.Mathlib.Omega.{arith}
+use lib.ListN.{length}
+use Rattle.std.specs.declared.result.Result.{Result}
 use Rattle.std.specs.declared.result.Result.the-variants.{Ok, Err}
+use Rattle.std.proofs.shelf.Lists.{length-push}
 use Rattle.sheets.specs.Many.{moreLines}
-use Rattle.sheets.specs.Reading.{Reader, State, TellsOr, andThen}
+use Rattle.sheets.specs.Reading.{Reader, State, TellsOr, Told, andThen}
 use Rattle.sheets.specs.declared.faults.Unread.{Unread}
 use Rattle.sheets.proofs.Readings.{like-or, stops-or}
 
@@ -28,3 +31,15 @@ module _ {X : Type 0} (kind : List X → Reader X) (lines i : ℕ) (xs : List X)
   more-ends h =
       let none : lines - i ≡ 0 = omega arith in
       ap (λ n. moreLines kind n xs s) none
+
+given-same : {X : Type 0} (xs ys : List X) (s s′ : State) → _≡_ {A = Result (List X × State) Told} (Ok (xs, s)) (Ok (ys, s′)) → xs ≡ ys
+given-same {X} xs ys s s′ h = let same : _≡_ {A = List X × State} (xs, s) (ys, s′) = cc in ap (λ p. p .0) same
+
+-- so many lines give so many items
+pub many-count : {X : Type 0} (kind : List X → Reader X) (lines : ℕ) (xs ys : List X) (s s′ : State) → moreLines kind lines xs s ≡ Ok (ys, s′) → length ys ≡ length xs + lines
+many-count kind zero xs ys s s′ h = rw (← given-same xs ys s s′ h) (omega arith)
+many-count {X} kind (suc lines) xs ys s s′ h = by-first (kind xs s) (λ x t. many-count kind lines (xs ++ x ∷ []) ys t s′) h
+  where
+    by-first : (d : Result (X × State) Told) → ((x : X) (t : State) → moreLines kind lines (xs ++ x ∷ []) t ≡ Ok (ys, s′) → length ys ≡ length (xs ++ x ∷ []) + lines) → andThen d (λ x. moreLines kind lines (xs ++ x ∷ [])) ≡ Ok (ys, s′) → length ys ≡ length xs + suc lines
+    by-first (Ok p) rest h = omega (arith, rest (p .0) (p .1) h, length-push xs (p .0))
+    by-first (Err e) rest h = let z : _≡_ {A = ℕ} 0 1 = cc in absurd (omega arith)

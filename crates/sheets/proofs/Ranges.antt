@@ -9,10 +9,11 @@ use Rattle.std.specs.declared.result.Result.the-variants.{Ok, Err}
 use Rattle.chains.specs.TickOrder.{within}
 use lib.Chars.{codes}
 use Rattle.std.specs.shelf.Text.{sameBytes}
-use Rattle.sheets.specs.Contents.{bodyLine, bodyNamed, callsLine, counted}
-use Rattle.sheets.specs.Dues.{anyName, anyNumber, lineEnds, named, numbered}
+use Rattle.sheets.specs.Contents.{bodyLine, bodyNamed, counted}
+use Rattle.sheets.specs.Dues.{anyName, anyNumber, lineEnds, named, numberLine, numbered}
 use Rattle.sheets.specs.Lines.{nextLine}
 use Rattle.sheets.specs.Reading.{Reader, State, Told, _>>=_, andThen, give, refuse}
+use Rattle.sheets.specs.declared.faults.Fault.{Fault}
 use Rattle.sheets.specs.declared.faults.Fault.the-variants.{Range, Contents as Wrong}
 use Rattle.sheets.specs.declared.contents.Body.{Body}
 use Rattle.sheets.specs.declared.contents.Body.the-variants.{Jobs, Rows}
@@ -45,12 +46,13 @@ ends-same : {X : Type 0} (d : Result (Unit {0} × State) Told) (y x : X) (s′ :
 ends-same (Ok p) y x s′ h = let same : _≡_ {A = _ × State} (y, p .1) (x, s′) = cc in ap (λ q. q .0) same
 ends-same (Err e) y x s′ h = let z : _≡_ {A = ℕ} 0 1 = cc in absurd (omega arith)
 
-pub calls-range : (s : State) (n : ℕ) (s′ : State) → callsLine s ≡ Ok (n, s′) → within 1 200 n ≡ true
-unfolding callsLine
-calls-range s n s′ h =
-    let P : ℕ → Type 0 = λ m. within 1 200 m ≡ true in
+-- the number of such a line lies in its range
+pub line-range : (due : List ℕ) (wrong : Fault) (low high : ℕ) (s : State) (n : ℕ) (s′ : State) → numberLine due wrong low high s ≡ Ok (n, s′) → within low high n ≡ true
+unfolding numberLine
+line-range due wrong low high s n s′ h =
+    let P : ℕ → Type 0 = λ m. within low high m ≡ true in
     step-kept P (nextLine s) _ n s′
-    (λ _ t. step-kept P (named (codes "calls") Wrong t) _ n s′ (λ _ u. step-gives P (numbered 1 200 u) _ n s′ (λ m v e. number-range 1 200 u m v e) (λ m v. ends-same (lineEnds v) m n s′)))
+    (λ _ t. step-kept P (named due wrong t) _ n s′ (λ _ u. step-gives P (numbered low high u) _ n s′ (λ m v e. number-range low high u m v e) (λ m v. ends-same (lineEnds v) m n s′)))
     h
 
 body-if : (body : Body) (s s′ : State) (a b : Bool) → cond a (numbered 2 9 >>= λ lines. give (Jobs lines)) (cond b (numbered 1 4097 >>= λ lines. give (Rows lines)) (refuse Wrong)) s ≡ Ok (body, s′) → counted body ≡ true

@@ -5,22 +5,13 @@ use Prim.Native.Nat.{ℕ}
 use lib.Chars.{codes}
 use Rattle.std.specs.shelf.Text.{sameBytes}
 use Rattle.chains.specs.TickOrder.{within}
-use Rattle.sheets.specs.Dues.{anyName, lineEnds, named, numbered}
+use Rattle.sheets.specs.Dues.{anyName, lineEnds, numberLine, numbered}
 use Rattle.sheets.specs.Lines.{nextLine}
 use Rattle.sheets.specs.Reading.{Reader, _>>=_, _>>_, give, refuse}
 use Rattle.sheets.specs.declared.contents.Body.{Body}
 use Rattle.sheets.specs.declared.contents.Body.the-variants.{Jobs, Rows}
 use Rattle.sheets.specs.declared.contents.Contents.{Contents}
 use Rattle.sheets.specs.declared.faults.Fault.the-variants.{Contents as Wrong}
-
--- there are always two bodies
-unfoldable pub bodiesLine : Reader ℕ
-bodiesLine = do
-  nextLine
-  named (codes "bodies") Wrong
-  bodies ← numbered 2 2
-  lineEnds
-  give bodies
 
 -- the body of this name: jobs has 2 to 9 lines, rows 1 to 4,097
 unfoldable pub bodyNamed : List ℕ → Reader Body
@@ -36,19 +27,12 @@ bodyLine = do
   lineEnds
   give body
 
-unfoldable pub callsLine : Reader ℕ
-callsLine = do
-  nextLine
-  named (codes "calls") Wrong
-  lines ← numbered 1 200
-  lineEnds
-  give lines
-
+-- there are always two bodies, and the second has the calls
 unfoldable pub contents : Reader Contents
 contents = do
-  bodiesLine
+  numberLine (codes "bodies") Wrong 2 2
   body ← bodyLine
-  calls ← callsLine
+  calls ← numberLine (codes "calls") Wrong 1 200
   give (record { body = body; calls = calls })
 
 -- how many lines a body may have

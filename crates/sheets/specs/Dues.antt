@@ -10,7 +10,8 @@ use Rattle.std.specs.shelf.Text.{sameBytes}
 use Rattle.chains.specs.TickOrder.{within}
 use Rattle.sheets.specs.Forms as forms
 use Rattle.sheets.specs.Forms.{lettersOf, markOf, nameOf, numberOf}
-use Rattle.sheets.specs.Reading.{Reader, State, Told, _>>=_, give, refuse}
+use Rattle.sheets.specs.Lines.{nextLine}
+use Rattle.sheets.specs.Reading.{Reader, State, Told, _>>=_, _>>_, give, refuse}
 use Rattle.sheets.specs.Words.{wordDue}
 use Rattle.sheets.specs.declared.faults.Fault.{Fault}
 use Rattle.sheets.specs.declared.faults.Fault.the-variants.{Form, Range}
@@ -47,3 +48,12 @@ endFrom (b ∷ bs) s = Err (Form, s .line)
 -- no word is over
 unfoldable pub lineEnds : Reader (Unit {0})
 lineEnds s = endFrom (s .left) s
+
+-- a line of a name and a number
+unfoldable pub numberLine : List ℕ → Fault → ℕ → ℕ → Reader ℕ
+numberLine due wrong low high = do
+  nextLine
+  named due wrong
+  n ← numbered low high
+  lineEnds
+  give n

@@ -10,7 +10,7 @@ use Rattle.maps.specs.JobRanges.{lockOf, marks}
 use Rattle.maps.specs.declared.jobs.job.Job.{Job}
 use Rattle.maps.specs.declared.jobs.job.Lock.{Lock}
 use Rattle.maps.specs.declared.jobs.panel.Jobs.{Jobs}
-use Rattle.sheets.specs.Dues.{anyMark, lineEnds, named, numbered}
+use Rattle.sheets.specs.Dues.{anyMark, lineEnds, named, numberLine, numbered}
 use Rattle.sheets.specs.Lines.{nextLine}
 use Rattle.sheets.specs.Many.{manyLines}
 use Rattle.sheets.specs.Reading.{Reader, _>>=_, _>>_, give, refuse}
@@ -34,14 +34,6 @@ termsOf j = record { run = j .run; period = j .period; limit = j .limit; hold = 
 
 abbrev pub panelOf : Jobs → Panel
 panelOf m = record { step = m .ticks .step; jobs = map termsOf (vec-items (m .jobs)) }
-
-unfoldable pub stepLine : Reader ℕ
-stepLine = do
-  nextLine
-  named (codes "step") Form
-  step ← numbered 1 1000
-  lineEnds
-  give step
 
 abbrev pub lockIf : Option Lock → ℕ → Reader Lock
 lockIf None hold = refuse Form
@@ -67,6 +59,6 @@ jobLine = do
 -- the first of these lines tells the step
 unfoldable pub jobsBody : ℕ → Reader Panel
 jobsBody lines = do
-  step ← stepLine
+  step ← numberLine (codes "step") Form 1 1000
   jobs ← manyLines (λ _. jobLine) (lines - 1)
   give (record { step = step; jobs = jobs })

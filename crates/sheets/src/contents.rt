@@ -3,7 +3,7 @@ ghost use mathlib.Core.Path.{_≡_};
 ghost use mathlib.Core.Bool.{true};
 ghost use Rattle.chains.specs.TickOrder.{within};
 ghost use Rattle.std.specs.Vec.{made};
-ghost use Rattle.sheets.specs.Contents.{bodiesLine, bodyLine, bodyNamed, callsLine, contents, counted};
+ghost use Rattle.sheets.specs.Contents.{bodyLine, bodyNamed, contents, counted};
 ghost use Rattle.sheets.specs.Reading.{Takes, stateOf};
 use crate::dues::is_name;
 use crate::faults::Fault;
@@ -22,17 +22,6 @@ pub enum Body {
 pub struct Contents {
     pub body: Body,
     pub calls: u32,
-}
-
-// `bodies 2`
-fn bodies_line(scanner: &mut Scanner) -> Result<u32, Unread>
-    ensures { λ r. ⌜ Takes (λ n. n) (bodiesLine (stateOf (now (scanner .entry)))) r (stateOf (now (scanner .exit))) ⌝ }
-{
-    scanner.next_line()?;
-    scanner.name(b"bodies", Fault::Contents)?;
-    let bodies = scanner.number(2, 2)?;
-    scanner.line_end()?;
-    Ok(bodies)
 }
 
 // The line count that goes with the name of a body.
@@ -61,24 +50,13 @@ fn body_line(scanner: &mut Scanner) -> Result<Body, Unread>
     Ok(body)
 }
 
-// `calls` and a line count
-fn calls_line(scanner: &mut Scanner) -> Result<u32, Unread>
-    ensures { λ r. ⌜ Takes (λ n. n) (callsLine (stateOf (now (scanner .entry)))) r (stateOf (now (scanner .exit))) ⌝ }
-{
-    scanner.next_line()?;
-    scanner.name(b"calls", Fault::Contents)?;
-    let lines = scanner.number(1, 200)?;
-    scanner.line_end()?;
-    Ok(lines)
-}
-
 // The first three lines.
 pub fn read_contents(scanner: &mut Scanner) -> Result<Contents, Unread>
     ensures read { λ r. ⌜ Takes (λ c. c) (contents (stateOf (now (scanner .entry)))) r (stateOf (now (scanner .exit))) ⌝ }
     ensures ranges { λ r. ⌜ made r (λ c. (counted (c .body) ≡ true) × (within 1 200 (c .calls) ≡ true)) ⌝ }
 {
-    bodies_line(scanner)?;
+    scanner.number_line(b"bodies", Fault::Contents, 2, 2)?;
     let body = body_line(scanner)?;
-    let calls = calls_line(scanner)?;
+    let calls = scanner.number_line(b"calls", Fault::Contents, 1, 200)?;
     Ok(Contents { body, calls })
 }

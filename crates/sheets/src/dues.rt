@@ -1,7 +1,7 @@
 // What may be due next in a line.
 ghost use mathlib.Core.Path.{_≡_};
 ghost use Rattle.std.specs.shelf.Text.{sameBytes};
-ghost use Rattle.sheets.specs.Dues.{anyLetters, anyMark, anyName, anyNumber, lineEnds, named, numbered};
+ghost use Rattle.sheets.specs.Dues.{anyLetters, anyMark, anyName, anyNumber, lineEnds, named, numberLine, numbered};
 ghost use Rattle.sheets.specs.Reading.{Takes, stateOf};
 use crate::faults::Fault;
 use crate::faults::Unread;
@@ -86,5 +86,22 @@ impl<'a> Scanner<'a> {
         } else {
             Err(self.bad(Fault::Form))
         }
+    }
+
+    // A line of a name and a number.
+    pub fn number_line(
+        &mut self,
+        due: &[u8],
+        wrong: Fault,
+        low: u32,
+        high: u32,
+    ) -> Result<u32, Unread>
+        ensures { λ r. ⌜ Takes (λ n. n) (numberLine (now (due .entry)) wrong low high (stateOf (now (self .entry)))) r (stateOf (now (self .exit))) ⌝ }
+    {
+        self.next_line()?;
+        self.name(due, wrong)?;
+        let number = self.number(low, high)?;
+        self.line_end()?;
+        Ok(number)
     }
 }

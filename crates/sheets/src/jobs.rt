@@ -2,10 +2,9 @@
 ghost use mathlib.Core.Path.{_≡_};
 ghost use mathlib.Core.Bool.{true};
 ghost use mathlib.Core.List.{map};
-ghost use Prim.Native.Nat.{_-_};
 ghost use Rattle.std.specs.Of.Vec.{vec-items};
 ghost use Rattle.chains.specs.TickOrder.{within};
-ghost use Rattle.sheets.specs.JobsBody.{jobLine, jobsBody, panelOf, stepLine, termsOf};
+ghost use Rattle.sheets.specs.JobsBody.{jobLine, jobsBody, panelOf, termsOf};
 ghost use Rattle.sheets.specs.Many.{manyLines};
 ghost use Rattle.sheets.specs.Reading.{Reads, Takes, stateOf};
 use crate::faults::Fault;
@@ -15,17 +14,6 @@ use crate::scanner::Scanner;
 use maps::Job;
 use maps::Jobs;
 use std::alloc::Global;
-
-// `step` and the step in microseconds
-fn step_line(scanner: &mut Scanner) -> Result<u32, Unread>
-    ensures { λ r. ⌜ Takes (λ n. n) (stepLine (stateOf (now (scanner .entry)))) r (stateOf (now (scanner .exit))) ⌝ }
-{
-    scanner.next_line()?;
-    scanner.name(b"step", Fault::Form)?;
-    let step = scanner.number(1, 1000)?;
-    scanner.line_end()?;
-    Ok(step)
-}
 
 // `job`, then its run, period, limit and hold, and its lock mark
 fn job_line(scanner: &mut Scanner) -> Result<Job, Unread>
@@ -62,7 +50,7 @@ pub(crate) fn jobs_body(heap: Global, scanner: &mut Scanner, lines: u32) -> Resu
     requires { ⌜ within 2 9 lines ≡ true ⌝ }
     ensures { λ r. ⌜ Reads panelOf (jobsBody lines (stateOf (now (scanner .entry)))) r (stateOf (now (scanner .exit))) ⌝ }
 {
-    let step = step_line(scanner)?;
+    let step = scanner.number_line(b"step", Fault::Form, 1, 1000)?;
     let jobs = job_lines(heap, scanner, lines - 1)?;
     match Jobs::new(step, jobs) {
         Ok(map) => Ok(map),
