@@ -11,7 +11,7 @@ use Rattle.std.specs.declared.option.Option.the-variants.{None, Some}
 use Rattle.sheets.specs.Dues.{ofForm}
 use Rattle.sheets.specs.Forms.{Form}
 use Rattle.sheets.specs.declared.faults.Fault.the-variants.{Form as Wrong}
-use Rattle.sheets.specs.Reading.{Reader, State, Tells, TellsOr, Told, andThen}
+use Rattle.sheets.specs.Reading.{Reader, Reads, State, Tells, TellsOr, Told, andThen}
 use Rattle.sheets.specs.declared.faults.Unread.{Unread}
 use Rattle.sheets.specs.declared.faults.Unread.the-variants.{Bad, Memory}
 
@@ -42,6 +42,11 @@ pub told-or : {X : Type 0} (d : Result (X × State) Told) (e : Unread) → Tells
 told-or d (Bad f line) h = h
 told-or d Memory h = absurd h
 
+-- the rest goes on from there, whatever it gives
+pub reads-on : {X Y Z : Type 0} (meaning : Z → Y) (d : Result (X × State) Told) (next : X → Reader Y) (x : X) (s : State) (r : Result Z Unread) (after : State) → d ≡ Ok (x, s) → Reads meaning (next x s) r after → Reads meaning (andThen d next) r after
+reads-on meaning d next x s (Ok z) after h t = ap (λ r. andThen r next) h ∙ t
+reads-on meaning d next x s (Err e) after h t = on-or d next x s e h t
+
 -- a test decides how it goes on
 pub passes : {X : Type 0} (b : Bool) (then′ else′ : Reader X) (s : State) (e : Unread) → true ≡ b → Tells (then′ s) e → Tells (cond b then′ else′ s) e
 passes true then′ else′ s e h t = t
@@ -50,6 +55,14 @@ passes false then′ else′ s e h t = absurd (both-ways false refl (sym h))
 pub fails : {X : Type 0} (b : Bool) (then′ else′ : Reader X) (s : State) (e : Unread) → false ≡ b → Tells (else′ s) e → Tells (cond b then′ else′ s) e
 fails true then′ else′ s e h t = absurd (both-ways true (sym h) refl)
 fails false then′ else′ s e h t = t
+
+pub passes-or : {X : Type 0} (b : Bool) (then′ else′ : Reader X) (s : State) (e : Unread) → true ≡ b → TellsOr (then′ s) e → TellsOr (cond b then′ else′ s) e
+passes-or true then′ else′ s e h t = t
+passes-or false then′ else′ s e h t = absurd (both-ways false refl (sym h))
+
+pub fails-or : {X : Type 0} (b : Bool) (then′ else′ : Reader X) (s : State) (e : Unread) → false ≡ b → TellsOr (else′ s) e → TellsOr (cond b then′ else′ s) e
+fails-or true then′ else′ s e h t = absurd (both-ways true (sym h) refl)
+fails-or false then′ else′ s e h t = t
 
 -- what is read one way is read the other way
 pub like : {X : Type 0} (d d′ : Result (X × State) Told) (e : Unread) → d′ ≡ d → Tells d e → Tells d′ e

@@ -1,3 +1,4 @@
+pub mod CallsBody
 pub mod Classes
 pub mod Contents
 pub mod Dues

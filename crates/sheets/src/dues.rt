@@ -1,5 +1,7 @@
 // What may be due next in a line.
 ghost use mathlib.Core.Path.{_≡_};
+ghost use lib.Dec.{eqb};
+ghost use lib.ListN.{length};
 ghost use Rattle.std.specs.shelf.Text.{sameBytes};
 ghost use Rattle.sheets.specs.Dues.{anyLetters, anyMark, anyName, anyNumber, lineEnds, named, numberLine, numbered};
 ghost use Rattle.sheets.specs.Reading.{Takes, stateOf};
@@ -77,11 +79,18 @@ impl<'a> Scanner<'a> {
         Ok(number as u32)
     }
 
+    // Whether no word is left.
+    pub fn at_line_end(&self) -> bool
+        ensures { λ r. ⌜ r ≡ eqb (length (now (self .entry) .left .now)) 0 ⌝ }
+    {
+        self.left.is_empty()
+    }
+
     // The end of the line.
     pub fn line_end(&mut self) -> Result<(), Unread>
         ensures { λ r. ⌜ Takes (λ u. u) (lineEnds (stateOf (now (self .entry)))) r (stateOf (now (self .exit))) ⌝ }
     {
-        if self.left.is_empty() {
+        if self.at_line_end() {
             Ok(())
         } else {
             Err(self.bad(Fault::Form))

@@ -1,4 +1,5 @@
 // Sheet files: what a text file says about a panel, or which fault it has and in which line.
+pub mod calls;
 pub mod classes;
 pub mod contents;
 pub mod dues;
