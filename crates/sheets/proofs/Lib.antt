@@ -5,4 +5,5 @@ pub mod ManyLines
 pub mod ManyValues
 pub mod Ranges
 pub mod Readings
+pub mod RowRead
 pub mod Scans

@@ -8,4 +8,6 @@ pub mod JobsBody
 pub mod Lines
 pub mod Many
 pub mod Reading
+pub mod RowsBody
+pub mod Sheets
 pub mod Words

@@ -1,0 +1,78 @@
+// Whole sheets.
+ghost use mathlib.Core.Path.{_≡_};
+ghost use mathlib.Core.Bool.{true};
+ghost use Rattle.chains.specs.TickOrder.{within};
+ghost use Rattle.sheets.specs.Contents.{counted};
+ghost use Rattle.sheets.specs.Reading.{Reads, stateOf};
+ghost use Rattle.sheets.specs.Sheets.{Parses, bodies, meantBy, sheet};
+use crate::calls::LetterValue;
+use crate::calls::Plan;
+use crate::calls::TickValue;
+use crate::calls::calls_body;
+use crate::contents::Body;
+use crate::contents::Contents;
+use crate::contents::read_contents;
+use crate::faults::Fault;
+use crate::faults::Unread;
+use crate::jobs::jobs_body;
+use crate::rows::rows_body;
+use crate::scanner::Scanner;
+use maps::Jobs;
+use maps::Rows;
+use std::alloc::Global;
+
+// What a file tells: a map, and what is asked of it.
+#[derive(Drop)]
+pub enum Sheet {
+    Jobs(Plan<Jobs, u32>),
+    Rows(Plan<Rows, u8>),
+}
+
+// The bodies that the contents tell, and nothing more.
+fn read_bodies(heap: Global, scanner: &mut Scanner, contents: Contents) -> Result<Sheet, Unread>
+    requires { ⌜ counted (contents .body) ≡ true ⌝ ∗ ⌜ within 1 200 (contents .calls) ≡ true ⌝ }
+    ensures { λ r. ⌜ Reads meantBy (bodies (contents .body) (contents .calls) (stateOf (now (scanner .entry)))) r (stateOf (now (scanner .exit))) ⌝ }
+{
+    match contents.body {
+        Body::Jobs(lines) => {
+            let panel = jobs_body(heap, scanner, lines)?;
+            let plan = calls_body(heap, scanner, panel, contents.calls)?;
+            scanner.file_end()?;
+            Ok(Sheet::Jobs(plan))
+        }
+        Body::Rows(lines) => {
+            let table = rows_body(heap, scanner, lines)?;
+            let plan = calls_body(heap, scanner, table, contents.calls)?;
+            scanner.file_end()?;
+            Ok(Sheet::Rows(plan))
+        }
+    }
+}
+
+// The lines of a file.
+fn read_sheet(heap: Global, scanner: &mut Scanner) -> Result<Sheet, Unread>
+    ensures { λ r. ⌜ Reads meantBy (sheet (stateOf (now (scanner .entry)))) r (stateOf (now (scanner .exit))) ⌝ }
+{
+    let contents = read_contents(scanner)?;
+    read_bodies(heap, scanner, contents)
+}
+
+// The sheet that a file means, or the first fault that it has.
+pub fn parse(heap: Global, file: &[u8]) -> Result<Sheet, Unread>
+    ensures { λ r. ⌜ Parses (now (file .entry)) r ⌝ }
+{
+    if file.len() > 65_536 {
+        return Err(Unread::Bad {
+            fault: Fault::Size,
+            line: 0,
+        });
+    }
+    if file.is_empty() {
+        return Err(Unread::Bad {
+            fault: Fault::Text,
+            line: 1,
+        });
+    }
+    let mut scanner = Scanner::new(file);
+    read_sheet(heap, &mut scanner)
+}
