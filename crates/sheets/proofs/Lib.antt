@@ -1,4 +1,5 @@
 pub mod ClassTable
+pub mod FileRead
 pub mod JobRead
 pub mod LineSteps
 pub mod ManyLines

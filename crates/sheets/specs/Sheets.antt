@@ -31,18 +31,25 @@ abbrev pub meantBy : Sheet → Meant
 meantBy (JobsSheet plan) = onJobs (panelOf (plan .map)) (plannedOf plan)
 meantBy (RowsSheet plan) = onRows (tableOf (plan .map)) (plannedOf plan)
 
--- the bodies that the contents tell
-unfoldable pub bodies : Body → ℕ → Reader Meant
-bodies (Jobs lines) calls = do
+-- a sheet of each kind of map, in so many lines, with so many lines of calls
+unfoldable pub jobsSheet : ℕ → ℕ → Reader Meant
+jobsSheet lines calls = do
   panel ← jobsBody lines
   plan ← callsBody tickValue calls
   fileEnds
   give (onJobs panel plan)
-bodies (Rows lines) calls = do
+
+unfoldable pub rowsSheet : ℕ → ℕ → Reader Meant
+rowsSheet lines calls = do
   table ← rowsBody lines
   plan ← callsBody letterValue calls
   fileEnds
   give (onRows table plan)
+
+-- the bodies that the contents tell
+abbrev pub bodies : Body → ℕ → Reader Meant
+bodies (Jobs lines) calls = jobsSheet lines calls
+bodies (Rows lines) calls = rowsSheet lines calls
 
 unfoldable pub sheet : Reader Meant
 sheet = contents >>= λ c. bodies (c .body) (c .calls)

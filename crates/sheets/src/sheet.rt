@@ -4,7 +4,7 @@ ghost use mathlib.Core.Bool.{true};
 ghost use Rattle.chains.specs.TickOrder.{within};
 ghost use Rattle.sheets.specs.Contents.{counted};
 ghost use Rattle.sheets.specs.Reading.{Reads, stateOf};
-ghost use Rattle.sheets.specs.Sheets.{Parses, bodies, meantBy, sheet};
+ghost use Rattle.sheets.specs.Sheets.{Parses, bodies, jobsSheet, meantBy, rowsSheet, sheet};
 use crate::calls::LetterValue;
 use crate::calls::Plan;
 use crate::calls::TickValue;
@@ -28,24 +28,36 @@ pub enum Sheet {
     Rows(Plan<Rows, u8>),
 }
 
+// A panel of `lines` lines, and `calls` lines of calls.
+fn jobs_sheet(heap: Global, scanner: &mut Scanner, lines: u32, calls: u32) -> Result<Sheet, Unread>
+    requires { ⌜ within 2 9 lines ≡ true ⌝ ∗ ⌜ within 1 200 calls ≡ true ⌝ }
+    ensures { λ r. ⌜ Reads meantBy (jobsSheet lines calls (stateOf (now (scanner .entry)))) r (stateOf (now (scanner .exit))) ⌝ }
+{
+    let panel = jobs_body(heap, scanner, lines)?;
+    let plan = calls_body(heap, scanner, panel, calls)?;
+    scanner.file_end()?;
+    Ok(Sheet::Jobs(plan))
+}
+
+// A table of `lines` lines, and `calls` lines of calls.
+fn rows_sheet(heap: Global, scanner: &mut Scanner, lines: u32, calls: u32) -> Result<Sheet, Unread>
+    requires { ⌜ within 1 4097 lines ≡ true ⌝ ∗ ⌜ within 1 200 calls ≡ true ⌝ }
+    ensures { λ r. ⌜ Reads meantBy (rowsSheet lines calls (stateOf (now (scanner .entry)))) r (stateOf (now (scanner .exit))) ⌝ }
+{
+    let table = rows_body(heap, scanner, lines)?;
+    let plan = calls_body(heap, scanner, table, calls)?;
+    scanner.file_end()?;
+    Ok(Sheet::Rows(plan))
+}
+
 // The bodies that the contents tell, and nothing more.
 fn read_bodies(heap: Global, scanner: &mut Scanner, contents: Contents) -> Result<Sheet, Unread>
     requires { ⌜ counted (contents .body) ≡ true ⌝ ∗ ⌜ within 1 200 (contents .calls) ≡ true ⌝ }
     ensures { λ r. ⌜ Reads meantBy (bodies (contents .body) (contents .calls) (stateOf (now (scanner .entry)))) r (stateOf (now (scanner .exit))) ⌝ }
 {
     match contents.body {
-        Body::Jobs(lines) => {
-            let panel = jobs_body(heap, scanner, lines)?;
-            let plan = calls_body(heap, scanner, panel, contents.calls)?;
-            scanner.file_end()?;
-            Ok(Sheet::Jobs(plan))
-        }
-        Body::Rows(lines) => {
-            let table = rows_body(heap, scanner, lines)?;
-            let plan = calls_body(heap, scanner, table, contents.calls)?;
-            scanner.file_end()?;
-            Ok(Sheet::Rows(plan))
-        }
+        Body::Jobs(lines) => jobs_sheet(heap, scanner, lines, contents.calls),
+        Body::Rows(lines) => rows_sheet(heap, scanner, lines, contents.calls),
     }
 }
 

@@ -37,8 +37,8 @@ loop-i-again c =
     let same = c .row-line .ensures .same in
     let held = added (c .row-line .last .rows) row (c .list .result) (c .list .last .self) (c .list .ensures) (c .if-is-err .ensures tt .value) in (
       ap (λ rows. moreLines kind (c .args .lines - (c .loop-i .-i + 1)) rows s′) (held .rows ∙ ap (λ m. rowsOf m ++ row ∷ []) same)
-      ∙ sym (more-goes kind (c .args .lines) (c .loop-i .-i) before s (search needs) row s′ (sym alike ∙ c .in-Continue-row .ensures tt .read))
-      ∙ inv .0,
+          ∙ sym (more-goes kind (c .args .lines) (c .loop-i .-i) before s (search needs) row s′ (sym alike ∙ c .in-Continue-row .ensures tt .read))
+          ∙ inv .0,
       held .grades ∙ ap (λ m. m .grades) same ∙ inv .1,
       held .dims ∙ ap (λ m. m .dims) same ∙ inv .2,
     )
