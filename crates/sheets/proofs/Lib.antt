@@ -1,4 +1,6 @@
 pub mod ClassTable
+pub mod Counting
+pub mod CountingFile
 pub mod FileRead
 pub mod JobRead
 pub mod LineSteps

@@ -6,6 +6,7 @@ pub mod Faults
 pub mod Forms
 pub mod JobsBody
 pub mod Lines
+pub mod LinesTold
 pub mod Many
 pub mod Reading
 pub mod RowsBody

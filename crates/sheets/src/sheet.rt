@@ -3,6 +3,7 @@ ghost use mathlib.Core.Path.{_≡_};
 ghost use mathlib.Core.Bool.{true};
 ghost use Rattle.chains.specs.TickOrder.{within};
 ghost use Rattle.sheets.specs.Contents.{counted};
+ghost use Rattle.sheets.specs.LinesTold.{ToldWithin};
 ghost use Rattle.sheets.specs.Reading.{Reads, stateOf};
 ghost use Rattle.sheets.specs.Sheets.{Parses, bodies, jobsSheet, meantBy, rowsSheet, sheet};
 use crate::calls::LetterValue;
@@ -71,7 +72,8 @@ fn read_sheet(heap: Global, scanner: &mut Scanner) -> Result<Sheet, Unread>
 
 // The sheet that a file means, or the first fault that it has.
 pub fn parse(heap: Global, file: &[u8]) -> Result<Sheet, Unread>
-    ensures { λ r. ⌜ Parses (now (file .entry)) r ⌝ }
+    ensures means { λ r. ⌜ Parses (now (file .entry)) r ⌝ }
+    ensures told { λ r. ⌜ ToldWithin (now (file .entry)) r ⌝ }
 {
     if file.len() > 65_536 {
         return Err(Unread::Bad {
