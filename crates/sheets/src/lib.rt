@@ -1,14 +1,14 @@
 // Sheet files: what a text file says about a panel, or which fault it has and in which line.
-pub mod calls;
-pub mod classes;
-pub mod contents;
-pub mod dues;
+mod calls;
+mod classes;
+mod contents;
+mod dues;
 pub mod faults;
-pub mod jobs;
-pub mod rows;
-pub mod scanner;
-pub mod sheet;
-pub mod word;
+mod jobs;
+mod rows;
+mod scanner;
+mod sheet;
+mod word;
 
 pub use calls::Call;
 pub use calls::Plan;
