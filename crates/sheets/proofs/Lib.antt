@@ -10,3 +10,7 @@ pub mod Ranges
 pub mod Readings
 pub mod RowRead
 pub mod Scans
+pub mod Spaced
+pub mod WrittenDues
+pub mod WrittenForms
+pub mod WrittenJobs

@@ -1,0 +1,207 @@
+-- A jobs sheet that is written by the rules is read back.
+use mathlib.Core.Path.{_≡_, refl, sym, ap, subst, _∙_}
+use mathlib.Core.Bool.{Bool, true, false, cond}
+use mathlib.Core.List.{List, [], _∷_, _++_, map}
+use Prim.Native.Nat.{ℕ, zero, suc, _+_, _-_, _^_, _<_, _≤_}
+use native.Mathlib.Nat.{add-zero}
+use native.Mathlib.Omega.{arith}
+use lib.Chars.{codes}
+use lib.Dec.{eqb, leb}
+use lib.ListN.{length}
+use Rattle.std.specs.Written.{decimal}
+use Rattle.std.specs.declared.option.Option.the-variants.{Some}
+use Rattle.std.specs.declared.result.Result.{Result}
+use Rattle.std.specs.declared.result.Result.the-variants.{Ok, Err}
+use Rattle.std.specs.shelf.Lists.{All}
+use Rattle.std.specs.shelf.Text.{sameBytes}
+use Rattle.std.proofs.shelf.Lists.{append-assoc, append-nil, length-append}
+use Rattle.std.proofs.shelf.Tests.{and-parts, leb-true, ne-eqb}
+use Rattle.chains.specs.TickOrder.{within}
+use Rattle.maps.specs.JobRanges.{marks}
+use Rattle.maps.specs.declared.jobs.job.Lock.{Lock}
+use Rattle.maps.specs.declared.jobs.job.Lock.the-variants.{Free, Inherit, Plain}
+use Rattle.sheets.specs.CallsBody.{Asked, Planned, asks, callLine, callNamed, callsBody, lineValues, lowers, moreValues, raises, searches, tickValue}
+use Rattle.sheets.specs.Contents.{bodyLine, bodyNamed, contents}
+use Rattle.sheets.specs.Dues.{lineEnds, numbered}
+use Rattle.sheets.specs.Forms.{formOf, mark, name}
+use Rattle.sheets.specs.JobsBody.{Panel, Terms, jobLine, jobsBody, lockDue}
+use Rattle.sheets.specs.Lines.{fileEnds}
+use Rattle.sheets.specs.Reading.{State, Told, andThen}
+use Rattle.sheets.specs.Sheets.{Meant, Parses, jobsSheet, meantBy, onJobs, readFile, sheet, valueOf}
+use Rattle.sheets.specs.Written.{JobsReadBack, ProperCall, ProperJob, ProperPanel, ProperPlan, ReadAs, TickFits, callWords, callsThen, jobWords, lineThen, linesThen, markOfLock, spaced, writtenJobs}
+use Rattle.sheets.specs.declared.contents.Body.the-variants.{Jobs}
+use Rattle.sheets.specs.declared.faults.Fault.the-variants.{Contents, Form}
+use Rattle.sheets.specs.declared.faults.Unread.{Unread}
+use Rattle.sheets.specs.declared.faults.Unread.the-variants.{Bad, Memory}
+use Rattle.sheets.specs.declared.sheet.Sheet.{Sheet}
+use Rattle.sheets.proofs.FileRead.{begins}
+use Rattle.sheets.proofs.Spaced.{IsWord, allIn, written-line}
+use Rattle.sheets.proofs.WrittenDues.{Back, any-name-written, atWords, ends-written, lines-written, mark-written, named-written, number-line-written, numbered-written}
+use Rattle.sheets.proofs.WrittenForms.{decimal-word}
+
+-- a number within a range is no larger than its end
+pub small : (low high n : ℕ) → within low high n ≡ true → high < 10 ^ 10 → n < 10 ^ 10
+small low high n w h = omega (arith, leb-true n high (and-parts _ _ w .1))
+
+lock-written : (lock : Lock) (hold : ℕ) (s : State) → marks (Some lock) hold ≡ true → lockDue (markOfLock lock) hold s ≡ Ok (lock, s)
+unfolding lockDue
+lock-written Free hold s h = rw h
+lock-written Inherit hold s h = refl
+lock-written Plain hold s h = refl
+
+mark-word : (lock : Lock) → IsWord (markOfLock lock ∷ [])
+mark-word Free = record { some = omega arith; bytes = refl }
+mark-word Inherit = record { some = omega arith; bytes = refl }
+mark-word Plain = record { some = omega arith; bytes = refl }
+
+mark-form : (lock : Lock) → formOf (markOfLock lock ∷ []) ≡ mark (markOfLock lock)
+mark-form Free = refl
+mark-form Inherit = refl
+mark-form Plain = refl
+
+-- a name of the format is a word
+abbrev Known : List ℕ → Type 0
+Known w = IsWord w × (formOf w ≡ name w)
+
+known : (w : List ℕ) → 0 < length w → allIn w ≡ true → formOf w ≡ name w → Known w
+known w some all form = (record { some = some; bytes = all }, form)
+
+job-name : Known (codes "job")
+job-name = known (codes "job") (omega arith) refl refl
+
+job-back : (t : Terms) → ProperJob t → (left more : List ℕ) (line : ℕ) → jobLine (record { left = left; rest = lineThen (jobWords t) more; line = line }) ≡ Ok (t, atWords [] more (suc line))
+unfolding jobLine
+job-back t p left more line =
+    let run = small 1 1000000 (t .run) (p .run) (omega arith) in
+    let period = small 1 1000000 (t .period) (p .period) (omega arith) in
+    let limit = small 1 (t .period) (t .limit) (p .limit) period in
+    let hold = small 0 (t .run) (t .hold) (p .hold) run in
+    let m = markOfLock (t .lock) in
+    let w5 : List (List ℕ) = (m ∷ []) ∷ [] in
+    let w4 : List (List ℕ) = decimal (t .hold) ∷ w5 in
+    let w3 : List (List ℕ) = decimal (t .limit) ∷ w4 in
+    let w2 : List (List ℕ) = decimal (t .period) ∷ w3 in
+    let w1 : List (List ℕ) = decimal (t .run) ∷ w2 in
+    rw (written-line (codes "job") w1 left more line (job-name .0, (decimal-word (t .run) run, (decimal-word (t .period) period, (decimal-word (t .limit) limit, (decimal-word (t .hold) hold, (mark-word (t .lock), tt)))))), named-written w1 more (suc line) (codes "job") Form (job-name .0) (job-name .1), numbered-written w2 more (suc line) 1 1000000 (t .run) run (p .run), numbered-written w3 more (suc line) 1 1000000 (t .period) period (p .period), numbered-written w4 more (suc line) 1 (t .period) (t .limit) limit (p .limit), numbered-written w5 more (suc line) 0 (t .run) (t .hold) hold (p .hold), mark-written [] more (suc line) m (mark-word (t .lock)) (mark-form (t .lock)), lock-written (t .lock) (t .hold) (atWords [] more (suc line)) (p .mark), ends-written more (suc line))
+
+jobs-all : (jobs before : List Terms) → All ProperJob jobs → Back (λ _. jobLine) jobWords before jobs
+jobs-all [] before h = tt
+jobs-all (t ∷ jobs) before h = (job-back t (h .0), jobs-all jobs (before ++ t ∷ []) (h .1))
+
+step-name : Known (codes "step")
+step-name = known (codes "step") (omega arith) refl refl
+
+jobs-back : (panel : Panel) → ProperPanel panel → (more : List ℕ) (line : ℕ) → jobsBody (suc (length (panel .jobs))) (atWords [] (lineThen (codes "step" ∷ decimal (panel .step) ∷ []) (linesThen jobWords (panel .jobs) more)) line) ≡ Ok (panel, atWords [] more (suc line + length (panel .jobs)))
+unfolding jobsBody
+jobs-back panel p more line =
+    let step = small 1 1000 (panel .step) (p .step) (omega arith) in
+    let rest : suc (length (panel .jobs)) - 1 ≡ length (panel .jobs) = omega arith in
+    rw (number-line-written (codes "step") Form 1 1000 (panel .step) [] (linesThen jobWords (panel .jobs) more) line (step-name .0) (step-name .1) step (p .step), rest, lines-written (λ _. jobLine) jobWords (panel .jobs) [] more (suc line) (jobs-all (panel .jobs) [] (p .jobs)))
+
+spaced-some : (w : List ℕ) (ws : List (List ℕ)) → IsWord w → 0 < length (spaced (w ∷ ws))
+spaced-some w [] h = h .some
+spaced-some w (v ∷ ws) h = omega (arith, h .some, length-append w (32 ∷ spaced (v ∷ ws)))
+
+tick-back : (v : ℕ) (ws : List (List ℕ)) (rest : List ℕ) (line : ℕ) → TickFits v → tickValue (atWords (decimal v ∷ ws) rest line) ≡ Ok (v, atWords ws rest line)
+unfolding tickValue
+tick-back v ws rest line h = numbered-written ws rest line 0 4294967295 v (small 0 4294967295 v h (omega arith)) h
+
+values-back : (vs before : List ℕ) (room : ℕ) (rest : List ℕ) (line : ℕ) → length vs ≤ room → All TickFits vs → moreValues tickValue room before (atWords (map decimal vs) rest line) ≡ Ok (before ++ vs, atWords [] rest line)
+values-back [] before zero rest line h a = rw (append-nil before)
+values-back [] before (suc room) rest line h a = rw (append-nil before)
+values-back (v ∷ vs) before zero rest line h a = absurd (omega arith)
+values-back (v ∷ vs) before (suc room) rest line h a =
+    let longer = spaced-some (decimal v) (map decimal vs) (decimal-word v (small 0 4294967295 v (a .0) (omega arith))) in
+    let some : eqb (length (spaced (decimal v ∷ map decimal vs))) 0 ≡ false = ne-eqb _ 0 (λ e. omega (arith, e, longer)) in
+    rw (some, tick-back v (map decimal vs) rest line (a .0)) (values-back vs (before ++ v ∷ []) room rest line (omega arith) (a .1) ∙ rw (append-assoc before (v ∷ []) vs))
+
+line-values-back : (vs : List ℕ) (rest : List ℕ) (line : ℕ) → length vs ≤ 8 → All TickFits vs → lineValues tickValue (atWords (map decimal vs) rest line) ≡ Ok (vs, atWords [] rest line)
+unfolding lineValues
+line-values-back vs rest line h a = rw (values-back vs [] 8 rest line h a, ends-written rest line)
+
+value-words : (vs : List ℕ) → All TickFits vs → All IsWord (map decimal vs)
+value-words [] a = tt
+value-words (v ∷ vs) a = (decimal-word v (small 0 4294967295 v (a .0) (omega arith)), value-words vs (a .1))
+
+ask-name : Known (codes "ask")
+ask-name = known (codes "ask") (omega arith) refl refl
+
+raise-name : Known (codes "raise")
+raise-name = known (codes "raise") (omega arith) refl refl
+
+lower-name : Known (codes "lower")
+lower-name = known (codes "lower") (omega arith) refl refl
+
+search-name : Known (codes "search")
+search-name = known (codes "search") (omega arith) refl refl
+
+call-back : (a : Asked ℕ) → ProperCall TickFits a → (left more : List ℕ) (line : ℕ) → callLine tickValue (record { left = left; rest = lineThen (callWords decimal a) more; line = line }) ≡ Ok (a, atWords [] more (suc line))
+unfolding callLine callNamed
+call-back (asks vs) p left more line =
+    rw (written-line (codes "ask") (map decimal vs) left more line (ask-name .0, value-words vs (p .1)), any-name-written (map decimal vs) more (suc line) (codes "ask") (ask-name .0) (ask-name .1), line-values-back vs more (suc line) (p .0) (p .1))
+call-back (raises vs) p left more line =
+    rw (written-line (codes "raise") (map decimal vs) left more line (raise-name .0, value-words vs (p .1)), any-name-written (map decimal vs) more (suc line) (codes "raise") (raise-name .0) (raise-name .1), line-values-back vs more (suc line) (p .0) (p .1))
+call-back (lowers vs) p left more line =
+    rw (written-line (codes "lower") (map decimal vs) left more line (lower-name .0, value-words vs (p .1)), any-name-written (map decimal vs) more (suc line) (codes "lower") (lower-name .0) (lower-name .1), line-values-back vs more (suc line) (p .0) (p .1))
+call-back searches p left more line =
+    rw (written-line (codes "search") [] left more line (search-name .0, tt), any-name-written [] more (suc line) (codes "search") (search-name .0) (search-name .1), ends-written more (suc line))
+
+calls-all : (calls before : List (Asked ℕ)) → All (ProperCall TickFits) calls → Back (λ _. callLine tickValue) (callWords decimal) before calls
+calls-all [] before h = tt
+calls-all (a ∷ calls) before h = (call-back a (h .0), calls-all calls (before ++ a ∷ []) (h .1))
+
+allow-name : Known (codes "allow")
+allow-name = known (codes "allow") (omega arith) refl refl
+
+calls-back : (plan : Planned ℕ) → ProperPlan TickFits plan → (line : ℕ) → callsBody tickValue (suc (length (plan .calls))) (atWords [] (callsThen decimal plan) line) ≡ Ok (plan, atWords [] [] (suc line + length (plan .calls)))
+unfolding callsBody
+calls-back plan p line =
+    let allow = small 0 9999999 (plan .allow) (p .allow) (omega arith) in
+    let rest : suc (length (plan .calls)) - 1 ≡ length (plan .calls) = omega arith in
+    rw (number-line-written (codes "allow") Form 0 9999999 (plan .allow) [] (linesThen (callWords decimal) (plan .calls) []) line (allow-name .0) (allow-name .1) allow (p .allow), rest, lines-written (λ _. callLine tickValue) (callWords decimal) (plan .calls) [] [] (suc line) (calls-all (plan .calls) [] (p .calls)))
+
+file-back : (line : ℕ) → fileEnds (atWords [] [] line) ≡ Ok (tt, atWords [] [] line)
+unfolding fileEnds
+file-back line = refl
+
+bodies-name : Known (codes "bodies")
+bodies-name = known (codes "bodies") (omega arith) refl refl
+
+jobs-name : Known (codes "jobs")
+jobs-name = known (codes "jobs") (omega arith) refl refl
+
+calls-name : Known (codes "calls")
+calls-name = known (codes "calls") (omega arith) refl refl
+
+body-back : (n : ℕ) (more : List ℕ) (line : ℕ) → within 2 9 n ≡ true → bodyLine (atWords [] (lineThen (codes "jobs" ∷ decimal n ∷ []) more) line) ≡ Ok (Jobs n, atWords [] more (suc line))
+unfolding bodyLine bodyNamed
+body-back n more line w =
+    let few = small 2 9 n w (omega arith) in
+    rw (written-line (codes "jobs") (decimal n ∷ []) [] more line (jobs-name .0, (decimal-word n few, tt)), any-name-written (decimal n ∷ []) more (suc line) (codes "jobs") (jobs-name .0) (jobs-name .1), numbered-written [] more (suc line) 2 9 n few w, ends-written more (suc line))
+
+contents-back : (n k : ℕ) (more : List ℕ) → within 2 9 n ≡ true → within 1 200 k ≡ true → contents (atWords [] (lineThen (codes "bodies" ∷ decimal 2 ∷ []) (lineThen (codes "jobs" ∷ decimal n ∷ []) (lineThen (codes "calls" ∷ decimal k ∷ []) more))) 0) ≡ Ok (record { body = Jobs n; calls = k }, atWords [] more 3)
+unfolding contents
+contents-back n k more v w =
+    rw (number-line-written (codes "bodies") Contents 2 2 2 [] (lineThen (codes "jobs" ∷ decimal n ∷ []) (lineThen (codes "calls" ∷ decimal k ∷ []) more)) 0 (bodies-name .0) (bodies-name .1) (omega arith) refl, body-back n (lineThen (codes "calls" ∷ decimal k ∷ []) more) 1 v, number-line-written (codes "calls") Contents 1 200 k [] more 2 (calls-name .0) (calls-name .1) (small 1 200 k w (omega arith)) w)
+
+sheet-back : (panel : Panel) (plan : Planned ℕ) → ProperPanel panel → ProperPlan TickFits plan → (s′ : ℕ) × (sheet (atWords [] (writtenJobs panel plan) 0) ≡ Ok (onJobs panel plan, atWords [] [] s′))
+unfolding sheet jobsSheet
+sheet-back panel plan p q =
+    let n = suc (length (panel .jobs)) in
+    let k = suc (length (plan .calls)) in
+    (suc (4 + length (panel .jobs)) + length (plan .calls), rw (contents-back n k (lineThen (codes "step" ∷ decimal (panel .step) ∷ []) (linesThen jobWords (panel .jobs) (callsThen decimal plan))) (p .count) (q .count), jobs-back panel p (callsThen decimal plan) 3, calls-back plan q (4 + length (panel .jobs)), file-back (suc (4 + length (panel .jobs)) + length (plan .calls))))
+
+read-as : (bytes : List ℕ) (m : Meant) (r : Result Sheet Unread) → Parses bytes r → readFile bytes ≡ Ok m → ReadAs m r
+read-as bytes m (Ok s) h e = let same : _≡_ {A = Result Meant Told} (Ok (meantBy s)) (Ok m) = sym h ∙ e in ok-same (meantBy s) m same
+  where
+    ok-same : (a b : Meant) → _≡_ {A = Result Meant Told} (Ok a) (Ok b) → a ≡ b
+    ok-same a b q = cc
+read-as bytes m (Err (Bad f line)) h e = let z : _≡_ {A = ℕ} 0 1 = cc in omega arith
+read-as bytes m (Err Memory) h e = tt
+
+-- what is written by the rules is read back
+pub jobs-read-back : (bytes : List ℕ) (r : Result Sheet Unread) → Parses bytes r → JobsReadBack bytes r
+jobs-read-back bytes r h panel plan p q size e =
+    let back = sheet-back panel plan p q in
+    let some : 0 < length bytes = rw e (omega arith) in
+    read-as bytes (onJobs panel plan) r h (begins bytes some size ∙ ap (λ b. valueOf (sheet (atWords [] b 0))) e ∙ ap valueOf (back .1))
