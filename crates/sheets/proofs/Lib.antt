@@ -11,6 +11,8 @@ pub mod Readings
 pub mod RowRead
 pub mod Scans
 pub mod Spaced
+pub mod WrittenCalls
 pub mod WrittenDues
 pub mod WrittenForms
 pub mod WrittenJobs
+pub mod WrittenLetters

@@ -36,12 +36,9 @@ use Rattle.sheets.specs.declared.faults.Unread.the-variants.{Bad, Memory}
 use Rattle.sheets.specs.declared.sheet.Sheet.{Sheet}
 use Rattle.sheets.proofs.FileRead.{begins}
 use Rattle.sheets.proofs.Spaced.{IsWord, allIn, written-line}
+use Rattle.sheets.proofs.WrittenCalls.{Known, calls-back, known, small}
 use Rattle.sheets.proofs.WrittenDues.{Back, any-name-written, atWords, ends-written, lines-written, mark-written, named-written, number-line-written, numbered-written}
 use Rattle.sheets.proofs.WrittenForms.{decimal-word}
-
--- a number within a range is no larger than its end
-pub small : (low high n : ℕ) → within low high n ≡ true → high < 10 ^ 10 → n < 10 ^ 10
-small low high n w h = omega (arith, leb-true n high (and-parts _ _ w .1))
 
 lock-written : (lock : Lock) (hold : ℕ) (s : State) → marks (Some lock) hold ≡ true → lockDue (markOfLock lock) hold s ≡ Ok (lock, s)
 unfolding lockDue
@@ -58,13 +55,6 @@ mark-form : (lock : Lock) → formOf (markOfLock lock ∷ []) ≡ mark (markOfLo
 mark-form Free = refl
 mark-form Inherit = refl
 mark-form Plain = refl
-
--- a name of the format is a word
-abbrev Known : List ℕ → Type 0
-Known w = IsWord w × (formOf w ≡ name w)
-
-known : (w : List ℕ) → 0 < length w → allIn w ≡ true → formOf w ≡ name w → Known w
-known w some all form = (record { some = some; bytes = all }, form)
 
 job-name : Known (codes "job")
 job-name = known (codes "job") (omega arith) refl refl
@@ -98,67 +88,12 @@ jobs-back panel p more line =
     let rest : suc (length (panel .jobs)) - 1 ≡ length (panel .jobs) = omega arith in
     rw (number-line-written (codes "step") Form 1 1000 (panel .step) [] (linesThen jobWords (panel .jobs) more) line (step-name .0) (step-name .1) step (p .step), rest, lines-written (λ _. jobLine) jobWords (panel .jobs) [] more (suc line) (jobs-all (panel .jobs) [] (p .jobs)))
 
-spaced-some : (w : List ℕ) (ws : List (List ℕ)) → IsWord w → 0 < length (spaced (w ∷ ws))
-spaced-some w [] h = h .some
-spaced-some w (v ∷ ws) h = omega (arith, h .some, length-append w (32 ∷ spaced (v ∷ ws)))
-
 tick-back : (v : ℕ) (ws : List (List ℕ)) (rest : List ℕ) (line : ℕ) → TickFits v → tickValue (atWords (decimal v ∷ ws) rest line) ≡ Ok (v, atWords ws rest line)
 unfolding tickValue
 tick-back v ws rest line h = numbered-written ws rest line 0 4294967295 v (small 0 4294967295 v h (omega arith)) h
 
-values-back : (vs before : List ℕ) (room : ℕ) (rest : List ℕ) (line : ℕ) → length vs ≤ room → All TickFits vs → moreValues tickValue room before (atWords (map decimal vs) rest line) ≡ Ok (before ++ vs, atWords [] rest line)
-values-back [] before zero rest line h a = rw (append-nil before)
-values-back [] before (suc room) rest line h a = rw (append-nil before)
-values-back (v ∷ vs) before zero rest line h a = absurd (omega arith)
-values-back (v ∷ vs) before (suc room) rest line h a =
-    let longer = spaced-some (decimal v) (map decimal vs) (decimal-word v (small 0 4294967295 v (a .0) (omega arith))) in
-    let some : eqb (length (spaced (decimal v ∷ map decimal vs))) 0 ≡ false = ne-eqb _ 0 (λ e. omega (arith, e, longer)) in
-    rw (some, tick-back v (map decimal vs) rest line (a .0)) (values-back vs (before ++ v ∷ []) room rest line (omega arith) (a .1) ∙ rw (append-assoc before (v ∷ []) vs))
-
-line-values-back : (vs : List ℕ) (rest : List ℕ) (line : ℕ) → length vs ≤ 8 → All TickFits vs → lineValues tickValue (atWords (map decimal vs) rest line) ≡ Ok (vs, atWords [] rest line)
-unfolding lineValues
-line-values-back vs rest line h a = rw (values-back vs [] 8 rest line h a, ends-written rest line)
-
-value-words : (vs : List ℕ) → All TickFits vs → All IsWord (map decimal vs)
-value-words [] a = tt
-value-words (v ∷ vs) a = (decimal-word v (small 0 4294967295 v (a .0) (omega arith)), value-words vs (a .1))
-
-ask-name : Known (codes "ask")
-ask-name = known (codes "ask") (omega arith) refl refl
-
-raise-name : Known (codes "raise")
-raise-name = known (codes "raise") (omega arith) refl refl
-
-lower-name : Known (codes "lower")
-lower-name = known (codes "lower") (omega arith) refl refl
-
-search-name : Known (codes "search")
-search-name = known (codes "search") (omega arith) refl refl
-
-call-back : (a : Asked ℕ) → ProperCall TickFits a → (left more : List ℕ) (line : ℕ) → callLine tickValue (record { left = left; rest = lineThen (callWords decimal a) more; line = line }) ≡ Ok (a, atWords [] more (suc line))
-unfolding callLine callNamed
-call-back (asks vs) p left more line =
-    rw (written-line (codes "ask") (map decimal vs) left more line (ask-name .0, value-words vs (p .1)), any-name-written (map decimal vs) more (suc line) (codes "ask") (ask-name .0) (ask-name .1), line-values-back vs more (suc line) (p .0) (p .1))
-call-back (raises vs) p left more line =
-    rw (written-line (codes "raise") (map decimal vs) left more line (raise-name .0, value-words vs (p .1)), any-name-written (map decimal vs) more (suc line) (codes "raise") (raise-name .0) (raise-name .1), line-values-back vs more (suc line) (p .0) (p .1))
-call-back (lowers vs) p left more line =
-    rw (written-line (codes "lower") (map decimal vs) left more line (lower-name .0, value-words vs (p .1)), any-name-written (map decimal vs) more (suc line) (codes "lower") (lower-name .0) (lower-name .1), line-values-back vs more (suc line) (p .0) (p .1))
-call-back searches p left more line =
-    rw (written-line (codes "search") [] left more line (search-name .0, tt), any-name-written [] more (suc line) (codes "search") (search-name .0) (search-name .1), ends-written more (suc line))
-
-calls-all : (calls before : List (Asked ℕ)) → All (ProperCall TickFits) calls → Back (λ _. callLine tickValue) (callWords decimal) before calls
-calls-all [] before h = tt
-calls-all (a ∷ calls) before h = (call-back a (h .0), calls-all calls (before ++ a ∷ []) (h .1))
-
-allow-name : Known (codes "allow")
-allow-name = known (codes "allow") (omega arith) refl refl
-
-calls-back : (plan : Planned ℕ) → ProperPlan TickFits plan → (line : ℕ) → callsBody tickValue (suc (length (plan .calls))) (atWords [] (callsThen decimal plan) line) ≡ Ok (plan, atWords [] [] (suc line + length (plan .calls)))
-unfolding callsBody
-calls-back plan p line =
-    let allow = small 0 9999999 (plan .allow) (p .allow) (omega arith) in
-    let rest : suc (length (plan .calls)) - 1 ≡ length (plan .calls) = omega arith in
-    rw (number-line-written (codes "allow") Form 0 9999999 (plan .allow) [] (linesThen (callWords decimal) (plan .calls) []) line (allow-name .0) (allow-name .1) allow (p .allow), rest, lines-written (λ _. callLine tickValue) (callWords decimal) (plan .calls) [] [] (suc line) (calls-all (plan .calls) [] (p .calls)))
+tick-word : (v : ℕ) → TickFits v → IsWord (decimal v)
+tick-word v h = decimal-word v (small 0 4294967295 v h (omega arith))
 
 file-back : (line : ℕ) → fileEnds (atWords [] [] line) ≡ Ok (tt, atWords [] [] line)
 unfolding fileEnds
@@ -189,7 +124,7 @@ unfolding sheet jobsSheet
 sheet-back panel plan p q =
     let n = suc (length (panel .jobs)) in
     let k = suc (length (plan .calls)) in
-    (suc (4 + length (panel .jobs)) + length (plan .calls), rw (contents-back n k (lineThen (codes "step" ∷ decimal (panel .step) ∷ []) (linesThen jobWords (panel .jobs) (callsThen decimal plan))) (p .count) (q .count), jobs-back panel p (callsThen decimal plan) 3, calls-back plan q (4 + length (panel .jobs)), file-back (suc (4 + length (panel .jobs)) + length (plan .calls))))
+    (suc (4 + length (panel .jobs)) + length (plan .calls), rw (contents-back n k (lineThen (codes "step" ∷ decimal (panel .step) ∷ []) (linesThen jobWords (panel .jobs) (callsThen decimal plan))) (p .count) (q .count), jobs-back panel p (callsThen decimal plan) 3, calls-back tickValue decimal TickFits tick-word tick-back plan q (4 + length (panel .jobs)), file-back (suc (4 + length (panel .jobs)) + length (plan .calls))))
 
 read-as : (bytes : List ℕ) (m : Meant) (r : Result Sheet Unread) → Parses bytes r → readFile bytes ≡ Ok m → ReadAs m r
 read-as bytes m (Ok s) h e = let same : _≡_ {A = Result Meant Told} (Ok (meantBy s)) (Ok m) = sym h ∙ e in ok-same (meantBy s) m same
