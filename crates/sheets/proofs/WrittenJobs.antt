@@ -34,9 +34,9 @@ use Rattle.sheets.specs.declared.faults.Fault.the-variants.{Contents, Form}
 use Rattle.sheets.specs.declared.faults.Unread.{Unread}
 use Rattle.sheets.specs.declared.faults.Unread.the-variants.{Bad, Memory}
 use Rattle.sheets.specs.declared.sheet.Sheet.{Sheet}
-use Rattle.sheets.proofs.FileRead.{begins}
 use Rattle.sheets.proofs.Spaced.{IsWord, allIn, written-line}
 use Rattle.sheets.proofs.WrittenCalls.{Known, calls-back, known, small}
+use Rattle.sheets.proofs.WrittenContents.{contents-back, file-back, read-back}
 use Rattle.sheets.proofs.WrittenDues.{Back, any-name-written, atWords, ends-written, lines-written, mark-written, named-written, number-line-written, numbered-written}
 use Rattle.sheets.proofs.WrittenForms.{decimal-word}
 
@@ -95,18 +95,8 @@ tick-back v ws rest line h = numbered-written ws rest line 0 4294967295 v (small
 tick-word : (v : ℕ) → TickFits v → IsWord (decimal v)
 tick-word v h = decimal-word v (small 0 4294967295 v h (omega arith))
 
-file-back : (line : ℕ) → fileEnds (atWords [] [] line) ≡ Ok (tt, atWords [] [] line)
-unfolding fileEnds
-file-back line = refl
-
-bodies-name : Known (codes "bodies")
-bodies-name = known (codes "bodies") (omega arith) refl refl
-
 jobs-name : Known (codes "jobs")
 jobs-name = known (codes "jobs") (omega arith) refl refl
-
-calls-name : Known (codes "calls")
-calls-name = known (codes "calls") (omega arith) refl refl
 
 body-back : (n : ℕ) (more : List ℕ) (line : ℕ) → within 2 9 n ≡ true → bodyLine (atWords [] (lineThen (codes "jobs" ∷ decimal n ∷ []) more) line) ≡ Ok (Jobs n, atWords [] more (suc line))
 unfolding bodyLine bodyNamed
@@ -114,29 +104,13 @@ body-back n more line w =
     let few = small 2 9 n w (omega arith) in
     rw (written-line (codes "jobs") (decimal n ∷ []) [] more line (jobs-name .0, (decimal-word n few, tt)), any-name-written (decimal n ∷ []) more (suc line) (codes "jobs") (jobs-name .0) (jobs-name .1), numbered-written [] more (suc line) 2 9 n few w, ends-written more (suc line))
 
-contents-back : (n k : ℕ) (more : List ℕ) → within 2 9 n ≡ true → within 1 200 k ≡ true → contents (atWords [] (lineThen (codes "bodies" ∷ decimal 2 ∷ []) (lineThen (codes "jobs" ∷ decimal n ∷ []) (lineThen (codes "calls" ∷ decimal k ∷ []) more))) 0) ≡ Ok (record { body = Jobs n; calls = k }, atWords [] more 3)
-unfolding contents
-contents-back n k more v w =
-    rw (number-line-written (codes "bodies") Contents 2 2 2 [] (lineThen (codes "jobs" ∷ decimal n ∷ []) (lineThen (codes "calls" ∷ decimal k ∷ []) more)) 0 (bodies-name .0) (bodies-name .1) (omega arith) refl, body-back n (lineThen (codes "calls" ∷ decimal k ∷ []) more) 1 v, number-line-written (codes "calls") Contents 1 200 k [] more 2 (calls-name .0) (calls-name .1) (small 1 200 k w (omega arith)) w)
-
 sheet-back : (panel : Panel) (plan : Planned ℕ) → ProperPanel panel → ProperPlan TickFits plan → (s′ : ℕ) × (sheet (atWords [] (writtenJobs panel plan) 0) ≡ Ok (onJobs panel plan, atWords [] [] s′))
 unfolding sheet jobsSheet
 sheet-back panel plan p q =
     let n = suc (length (panel .jobs)) in
     let k = suc (length (plan .calls)) in
-    (suc (4 + length (panel .jobs)) + length (plan .calls), rw (contents-back n k (lineThen (codes "step" ∷ decimal (panel .step) ∷ []) (linesThen jobWords (panel .jobs) (callsThen decimal plan))) (p .count) (q .count), jobs-back panel p (callsThen decimal plan) 3, calls-back tickValue decimal TickFits tick-word tick-back plan q (4 + length (panel .jobs)), file-back (suc (4 + length (panel .jobs)) + length (plan .calls))))
-
-read-as : (bytes : List ℕ) (m : Meant) (r : Result Sheet Unread) → Parses bytes r → readFile bytes ≡ Ok m → ReadAs m r
-read-as bytes m (Ok s) h e = let same : _≡_ {A = Result Meant Told} (Ok (meantBy s)) (Ok m) = sym h ∙ e in ok-same (meantBy s) m same
-  where
-    ok-same : (a b : Meant) → _≡_ {A = Result Meant Told} (Ok a) (Ok b) → a ≡ b
-    ok-same a b q = cc
-read-as bytes m (Err (Bad f line)) h e = let z : _≡_ {A = ℕ} 0 1 = cc in omega arith
-read-as bytes m (Err Memory) h e = tt
+    (suc (4 + length (panel .jobs)) + length (plan .calls), rw (contents-back (codes "jobs") (Jobs n) n k (lineThen (codes "step" ∷ decimal (panel .step) ∷ []) (linesThen jobWords (panel .jobs) (callsThen decimal plan))) (λ rest line. body-back n rest line (p .count)) (q .count), jobs-back panel p (callsThen decimal plan) 3, calls-back tickValue decimal TickFits tick-word tick-back plan q (4 + length (panel .jobs)), file-back (suc (4 + length (panel .jobs)) + length (plan .calls))))
 
 -- what is written by the rules is read back
 pub jobs-read-back : (bytes : List ℕ) (r : Result Sheet Unread) → Parses bytes r → JobsReadBack bytes r
-jobs-read-back bytes r h panel plan p q size e =
-    let back = sheet-back panel plan p q in
-    let some : 0 < length bytes = rw e (omega arith) in
-    read-as bytes (onJobs panel plan) r h (begins bytes some size ∙ ap (λ b. valueOf (sheet (atWords [] b 0))) e ∙ ap valueOf (back .1))
+jobs-read-back bytes r h panel plan p q size e = read-back bytes (writtenJobs panel plan) (onJobs panel plan) r h (omega arith) size e (sheet-back panel plan p q)

@@ -76,6 +76,7 @@ letters-form (c ∷ cs) some t =
     by-length : (one : Bool) → eqb c 104 ≡ false → eqb c 112 ≡ false → eqb c 45 ≡ false → (one && (eqb c 104 || (eqb c 112 || eqb c 45))) ≡ false
     by-length true h p m = rw (h, p, m)
     by-length false h p m = refl
+
     formed : (a b d : Bool) → a ≡ false → b ≡ false → d ≡ true → cond a (mark c) (cond b (name (c ∷ cs)) (cond d (letters (c ∷ cs)) (cond (isNumeral (c ∷ cs)) (number (numberAfter 0 (c ∷ cs))) mixed))) ≡ letters (c ∷ cs)
     formed a b d p q r = rw (p, q, r)
 
