@@ -1,16 +1,14 @@
 -- A whole file, from its size on.
-use mathlib.Core.Path.{_≡_, refl, sym, ap, subst, _∙_}
-use mathlib.Core.Bool.{true, false, cond}
+use mathlib.Core.Path.{_≡_, sym, ap, _∙_}
 use mathlib.Core.List.{List, [], _∷_}
 use Prim.Native.Nat.{ℕ, _<_, _≤_}
 use native.Mathlib.Omega.{arith}
-use lib.Dec.{ltb}
 use lib.ListN.{length}
 use Rattle.std.specs.declared.result.Result.{Result}
 use Rattle.std.specs.declared.result.Result.the-variants.{Ok, Err}
 use Rattle.std.proofs.shelf.Tests.{cond-false, cond-true, le-ltb, lt-ltb}
 use Rattle.sheets.specs.Reading.{Reads, State}
-use Rattle.sheets.specs.Sheets.{Meant, Parses, meantBy, readFile, sheet, sized, valueOf}
+use Rattle.sheets.specs.Sheets.{Parses, meantBy, readFile, sheet, sized, valueOf}
 use Rattle.sheets.specs.declared.faults.Fault.the-variants.{Text, Size}
 use Rattle.sheets.specs.declared.faults.Unread.{Unread}
 use Rattle.sheets.specs.declared.faults.Unread.the-variants.{Bad, Memory}

@@ -1,23 +1,23 @@
 -- Written lines and words are found again.
-use mathlib.Core.Path.{_≡_, refl, sym, ap, subst, _∙_}
-use mathlib.Core.Bool.{Bool, true, false, cond, not, _&&_}
+use mathlib.Core.Path.{_≡_, refl, sym, ap, _∙_}
+use mathlib.Core.Bool.{Bool, true, false, cond, _&&_}
 use mathlib.Core.List.{List, [], _∷_, _++_}
-use Prim.Native.Nat.{ℕ, zero, suc, _+_, _<_, _≤_}
+use Prim.Native.Nat.{ℕ, suc, _+_, _<_}
 use native.Mathlib.Omega.{arith}
 use lib.Dec.{eqb}
 use lib.ListN.{length, take, drop}
 use Rattle.std.specs.declared.option.Option.{Option}
 use Rattle.std.specs.declared.option.Option.the-variants.{None, Some}
 use Rattle.std.specs.declared.result.Result.{Result}
-use Rattle.std.specs.declared.result.Result.the-variants.{Ok, Err}
+use Rattle.std.specs.declared.result.Result.the-variants.{Ok}
 use Rattle.std.specs.shelf.Lists.{All}
 use Rattle.std.proofs.shelf.Lists.{append-nil, drop-all, length-append, take-all, take-at}
 use Rattle.std.proofs.shelf.Tests.{and-parts, both-ways}
 use Rattle.sheets.specs.Classes.{classOf}
 use Rattle.sheets.specs.Forms.{Form, formOf}
-use Rattle.sheets.specs.Lines.{goesOn, holdsOf, lineFrom, neat, nextLine, upTo}
+use Rattle.sheets.specs.Lines.{goesOn, holdsOf, neat, nextLine, upTo}
 use Rattle.sheets.specs.Reading.{State, Told}
-use Rattle.sheets.specs.Words.{wordDue, wordFrom}
+use Rattle.sheets.specs.Words.{wordDue}
 use Rattle.sheets.specs.Written.{lineThen, spaced}
 use Rattle.sheets.specs.declared.classes.Class.{Class}
 use Rattle.sheets.specs.declared.classes.Class.the-variants.{LineEnd, Blank, Digit, Capital, Small, Minus, Other}

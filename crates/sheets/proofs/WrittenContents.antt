@@ -1,5 +1,5 @@
 -- Written contents are read back, and what a written file means is what is parsed.
-use mathlib.Core.Path.{_≡_, refl, sym, ap, subst, _∙_}
+use mathlib.Core.Path.{_≡_, refl, sym, ap, _∙_}
 use mathlib.Core.Bool.{true}
 use mathlib.Core.List.{List, [], _∷_}
 use Prim.Native.Nat.{ℕ, suc, _<_, _≤_}
@@ -12,7 +12,7 @@ use Rattle.std.specs.declared.result.Result.the-variants.{Ok, Err}
 use Rattle.chains.specs.TickOrder.{within}
 use Rattle.sheets.specs.Contents.{bodyLine, contents}
 use Rattle.sheets.specs.Lines.{fileEnds}
-use Rattle.sheets.specs.Reading.{State, Told}
+use Rattle.sheets.specs.Reading.{Told}
 use Rattle.sheets.specs.Sheets.{Meant, Parses, meantBy, readFile, sheet, valueOf}
 use Rattle.sheets.specs.Written.{ReadAs, lineThen}
 use Rattle.sheets.specs.declared.contents.Body.{Body}

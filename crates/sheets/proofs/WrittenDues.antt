@@ -1,25 +1,20 @@
 -- Written words are what was due.
-use mathlib.Core.Path.{_≡_, refl, sym, ap, subst, _∙_}
-use mathlib.Core.Bool.{Bool, true, false, cond}
+use mathlib.Core.Path.{_≡_, refl, ap, _∙_}
+use mathlib.Core.Bool.{true}
 use mathlib.Core.List.{List, [], _∷_, _++_}
-use Prim.Native.Nat.{ℕ, zero, suc, _+_, _-_, _^_, _<_, _≤_}
+use Prim.Native.Nat.{ℕ, suc, _+_, _-_, _^_, _<_}
 use native.Mathlib.Nat.{add-suc, add-zero, suc-add}
-use native.Mathlib.Omega.{arith}
-use lib.Dec.{eqb}
 use lib.ListN.{length}
 use Rattle.std.specs.Written.{decimal}
-use Rattle.std.specs.declared.result.Result.the-variants.{Ok, Err}
-use Rattle.std.specs.shelf.Lists.{All}
+use Rattle.std.specs.declared.result.Result.the-variants.{Ok}
 use Rattle.std.specs.shelf.Text.{sameBytes}
 use Rattle.std.proofs.shelf.Equals.{sameBytes-decides}
 use Rattle.std.proofs.shelf.Lists.{append-assoc, append-nil}
 use Rattle.chains.specs.TickOrder.{within}
 use Rattle.sheets.specs.Dues.{anyMark, anyName, anyNumber, lineEnds, named, numberLine, numbered}
-use Rattle.sheets.specs.Forms.{formOf, mark, name, number}
-use Rattle.sheets.specs.Lines.{nextLine}
+use Rattle.sheets.specs.Forms.{formOf, mark, name}
 use Rattle.sheets.specs.Many.{moreLines}
 use Rattle.sheets.specs.Reading.{Reader, State, andThen}
-use Rattle.sheets.specs.Words.{wordDue}
 use Rattle.sheets.specs.Written.{lineThen, linesThen, spaced}
 use Rattle.sheets.specs.declared.faults.Fault.{Fault}
 use Rattle.sheets.proofs.Spaced.{IsWord, written-line, written-word}

@@ -1,24 +1,23 @@
 -- Written words have the form that they were written in.
-use mathlib.Core.Path.{_≡_, refl, sym, ap, subst, _∙_}
+use mathlib.Core.Path.{_≡_, refl, ap, _∙_}
 use mathlib.Core.Bool.{Bool, true, false, cond, not, _&&_, _||_}
-use mathlib.Core.List.{List, [], _∷_, _++_}
+use mathlib.Core.List.{List, [], _∷_}
 use mathlib.Core.Logic.{_⊎_, inl, inr}
-use Prim.Native.Nat.{ℕ, zero, suc, _+_, _-_, _*_, _^_, _<_, _≤_}
+use Prim.Native.Nat.{ℕ, zero, suc, _-_, _^_, _<_, _≤_}
 use native.Mathlib.Omega.{arith}
-use lib.Dec.{eqb, leb}
+use lib.Dec.{eqb}
 use lib.ListN.{length, getD}
 use Rattle.std.specs.Text.{asciiDigit}
 use Rattle.std.specs.Written.{decimal}
 use Rattle.std.specs.shelf.Text.{allDigits}
 use Rattle.std.proofs.shelf.Decimals.{decimal-digit, decimal-some, digits-decimal, first-decimal, length-decimal-le, value-decimal}
-use Rattle.std.proofs.shelf.Numerals.{Folds, Numerals, numerals-by-fold, tells-allDigits}
-use Rattle.std.proofs.shelf.Tests.{and-from, and-parts, both-ways, eq-eqb, eqb-true, le-leb, ne-eqb}
+use Rattle.std.proofs.shelf.Numerals.{Numerals, numerals-by-fold, tells-allDigits}
+use Rattle.std.proofs.shelf.Tests.{and-from, and-parts, eq-eqb, le-leb, ne-eqb}
 use Rattle.std.proofs.shelf.Ways.{tells}
-use Rattle.sheets.specs.Classes.{classOf, from, sameClass}
-use Rattle.sheets.specs.Forms.{Form, allOf, formOf, isMark, isNumeral, letters, mark, mixed, name, number, numberAfter}
-use Rattle.sheets.specs.declared.classes.Class.{Class}
-use Rattle.sheets.specs.declared.classes.Class.the-variants.{LineEnd, Blank, Digit, Capital, Small, Minus, Other}
-use Rattle.sheets.proofs.Spaced.{IsWord, allIn, inWord}
+use Rattle.sheets.specs.Classes.{classOf, from}
+use Rattle.sheets.specs.Forms.{allOf, formOf, isMark, isNumeral, letters, mark, mixed, name, number, numberAfter}
+use Rattle.sheets.specs.declared.classes.Class.the-variants.{Digit, Capital, Small}
+use Rattle.sheets.proofs.Spaced.{IsWord, allIn}
 
 own : Numerals (λ ds. allDigits ds ≡ true) (numberAfter 0)
 own = numerals-by-fold _ tells-allDigits numberAfter (record { empty = λ n. refl; more = λ n c cs h. refl })

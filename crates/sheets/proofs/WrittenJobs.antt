@@ -1,40 +1,32 @@
 -- A jobs sheet that is written by the rules is read back.
-use mathlib.Core.Path.{_≡_, refl, sym, ap, subst, _∙_}
-use mathlib.Core.Bool.{Bool, true, false, cond}
-use mathlib.Core.List.{List, [], _∷_, _++_, map}
-use Prim.Native.Nat.{ℕ, zero, suc, _+_, _-_, _^_, _<_, _≤_}
-use native.Mathlib.Nat.{add-zero}
+use mathlib.Core.Path.{_≡_, refl}
+use mathlib.Core.Bool.{true}
+use mathlib.Core.List.{List, [], _∷_, _++_}
+use Prim.Native.Nat.{ℕ, suc, _+_, _-_}
 use native.Mathlib.Omega.{arith}
 use lib.Chars.{codes}
-use lib.Dec.{eqb, leb}
 use lib.ListN.{length}
 use Rattle.std.specs.Written.{decimal}
 use Rattle.std.specs.declared.option.Option.the-variants.{Some}
 use Rattle.std.specs.declared.result.Result.{Result}
-use Rattle.std.specs.declared.result.Result.the-variants.{Ok, Err}
+use Rattle.std.specs.declared.result.Result.the-variants.{Ok}
 use Rattle.std.specs.shelf.Lists.{All}
-use Rattle.std.specs.shelf.Text.{sameBytes}
-use Rattle.std.proofs.shelf.Lists.{append-assoc, append-nil, length-append}
-use Rattle.std.proofs.shelf.Tests.{and-parts, leb-true, ne-eqb}
 use Rattle.chains.specs.TickOrder.{within}
 use Rattle.maps.specs.JobRanges.{marks}
 use Rattle.maps.specs.declared.jobs.job.Lock.{Lock}
 use Rattle.maps.specs.declared.jobs.job.Lock.the-variants.{Free, Inherit, Plain}
-use Rattle.sheets.specs.CallsBody.{Asked, Planned, asks, callLine, callNamed, callsBody, lineValues, lowers, moreValues, raises, searches, tickValue}
-use Rattle.sheets.specs.Contents.{bodyLine, bodyNamed, contents}
-use Rattle.sheets.specs.Dues.{lineEnds, numbered}
-use Rattle.sheets.specs.Forms.{formOf, mark, name}
+use Rattle.sheets.specs.CallsBody.{Planned, tickValue}
+use Rattle.sheets.specs.Contents.{bodyLine, bodyNamed}
+use Rattle.sheets.specs.Forms.{formOf, mark}
 use Rattle.sheets.specs.JobsBody.{Panel, Terms, jobLine, jobsBody, lockDue}
-use Rattle.sheets.specs.Lines.{fileEnds}
-use Rattle.sheets.specs.Reading.{State, Told, andThen}
-use Rattle.sheets.specs.Sheets.{Meant, Parses, jobsSheet, meantBy, onJobs, readFile, sheet, valueOf}
-use Rattle.sheets.specs.Written.{JobsReadBack, ProperCall, ProperJob, ProperPanel, ProperPlan, ReadAs, TickFits, callWords, callsThen, jobWords, lineThen, linesThen, markOfLock, spaced, writtenJobs}
+use Rattle.sheets.specs.Reading.{State}
+use Rattle.sheets.specs.Sheets.{Parses, jobsSheet, onJobs, sheet}
+use Rattle.sheets.specs.Written.{JobsReadBack, ProperJob, ProperPanel, ProperPlan, TickFits, callsThen, jobWords, lineThen, linesThen, markOfLock, writtenJobs}
 use Rattle.sheets.specs.declared.contents.Body.the-variants.{Jobs}
-use Rattle.sheets.specs.declared.faults.Fault.the-variants.{Contents, Form}
+use Rattle.sheets.specs.declared.faults.Fault.the-variants.{Form}
 use Rattle.sheets.specs.declared.faults.Unread.{Unread}
-use Rattle.sheets.specs.declared.faults.Unread.the-variants.{Bad, Memory}
 use Rattle.sheets.specs.declared.sheet.Sheet.{Sheet}
-use Rattle.sheets.proofs.Spaced.{IsWord, allIn, written-line}
+use Rattle.sheets.proofs.Spaced.{IsWord, written-line}
 use Rattle.sheets.proofs.WrittenCalls.{Known, calls-back, known, small}
 use Rattle.sheets.proofs.WrittenContents.{contents-back, file-back, read-back}
 use Rattle.sheets.proofs.WrittenDues.{Back, any-name-written, atWords, ends-written, lines-written, mark-written, named-written, number-line-written, numbered-written}

@@ -1,9 +1,9 @@
 -- Written letters have the form of letters, and written points are read back.
 use mathlib.Core.Path.{_≡_, refl, sym, ap, subst, _∙_}
 use mathlib.Core.Bool.{Bool, true, false, cond, _&&_, _||_}
-use mathlib.Core.List.{List, [], _∷_, _++_, map}
+use mathlib.Core.List.{List, [], _∷_, map}
 use mathlib.Core.Logic.{_⊎_, inl, inr}
-use Prim.Native.Nat.{ℕ, zero, suc, _+_, _<_, _≤_, min}
+use Prim.Native.Nat.{ℕ, zero, suc, _<_, _≤_}
 use native.Mathlib.Nat.{zero-add}
 use native.Mathlib.Omega.{arith}
 use lib.Dec.{eqb}
@@ -11,7 +11,7 @@ use lib.ListN.{length, getD, take}
 use Rattle.std.specs.Finite.{nth}
 use Rattle.std.specs.Options.{isSome, valueOr}
 use Rattle.std.specs.declared.option.Option.the-variants.{None, Some}
-use Rattle.std.specs.declared.result.Result.the-variants.{Ok, Err}
+use Rattle.std.specs.declared.result.Result.the-variants.{Ok}
 use Rattle.std.proofs.shelf.Lists.{getD-map, getD-take, length-map, length-take}
 use Rattle.std.proofs.shelf.Maps.{nth-getD, nth-past}
 use Rattle.std.proofs.shelf.Tests.{and-from, and-parts, cases-lt, eq-eqb, le-ltb, leb-true, lt-ltb, ne-eqb}
@@ -25,7 +25,7 @@ use Rattle.maps.specs.Replies.{rowSize, rowSizes}
 use Rattle.sheets.specs.CallsBody.{letterValue}
 use Rattle.sheets.specs.Classes.{classOf, from}
 use Rattle.sheets.specs.Dues.{anyLetters}
-use Rattle.sheets.specs.Forms.{Form, allOf, formOf, isMark, isNumeral, letters, mark, mixed, name, number, numberAfter}
+use Rattle.sheets.specs.Forms.{allOf, formOf, isMark, isNumeral, letters, mark, mixed, name, number, numberAfter}
 use Rattle.sheets.specs.RowsBody.{allListed, pointDue, pointOf, rankAt, ranksOf}
 use Rattle.sheets.specs.Written.{LetterFits, lettersAt}
 use Rattle.sheets.specs.declared.classes.Class.the-variants.{Capital, Small}

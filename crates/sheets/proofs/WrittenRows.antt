@@ -1,15 +1,15 @@
 -- A rows sheet that is written by the rules is read back.
-use mathlib.Core.Path.{_≡_, refl, sym, ap, subst, _∙_}
-use mathlib.Core.Bool.{Bool, true, false, cond}
+use mathlib.Core.Path.{_≡_, refl}
+use mathlib.Core.Bool.{true}
 use mathlib.Core.List.{List, [], _∷_, _++_}
-use Prim.Native.Nat.{ℕ, suc, _+_, _-_, _^_, _<_, _≤_}
+use Prim.Native.Nat.{ℕ, suc, _+_, _-_, _≤_}
 use native.Mathlib.Omega.{arith}
 use lib.Chars.{codes}
 use lib.ListN.{length}
 use Rattle.std.specs.Written.{decimal}
 use Rattle.std.specs.declared.option.Option.the-variants.{None}
 use Rattle.std.specs.declared.result.Result.{Result}
-use Rattle.std.specs.declared.result.Result.the-variants.{Ok, Err}
+use Rattle.std.specs.declared.result.Result.the-variants.{Ok}
 use Rattle.std.specs.shelf.Lists.{All}
 use Rattle.std.proofs.shelf.Tests.{and-parts, leb-true}
 use Rattle.chains.specs.GradeOrder.{gradesFault}
@@ -19,16 +19,15 @@ use Rattle.points.specs.declared.Entry.{Entry}
 use Rattle.maps.specs.Replies.{rowSizes}
 use Rattle.sheets.specs.CallsBody.{Planned, letterValue}
 use Rattle.sheets.specs.Contents.{bodyLine, bodyNamed}
-use Rattle.sheets.specs.Reading.{State}
 use Rattle.sheets.specs.RowsBody.{Table, gradesDue, gradesLine, rowLine, rowsBody}
-use Rattle.sheets.specs.Sheets.{Meant, Parses, onRows, rowsSheet, sheet}
+use Rattle.sheets.specs.Sheets.{Parses, onRows, rowsSheet, sheet}
 use Rattle.sheets.specs.Written.{Fresh, LetterFits, ProperPlan, ProperRow, ProperTable, RowsReadBack, callsThen, letterWord, lettersAt, lineThen, linesThen, rowWords, writtenRows}
 use Rattle.sheets.specs.declared.contents.Body.the-variants.{Rows}
 use Rattle.sheets.specs.declared.faults.Fault.the-variants.{Form}
 use Rattle.sheets.specs.declared.faults.Unread.{Unread}
 use Rattle.sheets.specs.declared.sheet.Sheet.{Sheet}
 use Rattle.sheets.proofs.RowRead.{comes-new}
-use Rattle.sheets.proofs.Spaced.{IsWord, written-line}
+use Rattle.sheets.proofs.Spaced.{written-line}
 use Rattle.sheets.proofs.WrittenCalls.{Known, calls-back, known, small}
 use Rattle.sheets.proofs.WrittenContents.{contents-back, file-back, read-back}
 use Rattle.sheets.proofs.WrittenDues.{Back, any-name-written, atWords, ends-written, lines-written, named-written, numbered-written}
