@@ -57,7 +57,7 @@ finds-by x xs i k v true t once again rest =
     absurd (both-ways _ clash two)
 finds-by x xs i k v false t once again rest = rest ∙ ap Some (omega arith)
 
-finds : (xs : List ℕ) (i k v : ℕ) → different xs ≡ true → nth xs k ≡ Some v → placeFrom i xs v ≡ Some (i + k)
+pub finds : (xs : List ℕ) (i k v : ℕ) → different xs ≡ true → nth xs k ≡ Some v → placeFrom i xs v ≡ Some (i + k)
 finds [] i k v d e = nowhere None v refl e
 finds (x ∷ xs) i zero v d e = let s : x ≡ v = cc in cond-true _ _ _ (eq-eqb x v s) ∙ ap Some (sym (add-zero i))
 finds (x ∷ xs) i (suc k) v d e =

@@ -6,7 +6,7 @@ use Prim.Native.Nat.{ℕ, zero, suc, _+_, _<_}
 use native.Mathlib.Nat.{add-zero, zero-add, add-suc, suc-add, le-of-suc-le-suc, not-suc-le-zero}
 use native.Mathlib.Omega.{arith}
 use lib.ListN.{length, getD}
-use Rattle.std.proofs.shelf.Tests.{and-parts, both-ways, eq-eqb, eqb-true}
+use Rattle.std.proofs.shelf.Tests.{and-parts, eq-eqb, eqb-true}
 use Rattle.sheets.specs.Classes.{classNumber, classOf, sameClass}
 use Rattle.sheets.specs.declared.classes.Class.{Class}
 use Rattle.sheets.specs.declared.classes.Class.the-variants.{LineEnd, Blank, Digit, Capital, Small, Minus, Other}

@@ -1,5 +1,5 @@
 -- Lines are counted as they are read: those read and those left are those of the file, so no fault is told further than one past them.
-use mathlib.Core.Path.{_≡_, refl, sym, ap, subst, _∙_}
+use mathlib.Core.Path.{_≡_, refl, sym, ap, subst}
 use mathlib.Core.Bool.{Bool, true, false, cond, _&&_}
 use mathlib.Core.List.{List, [], _∷_, _++_}
 use Prim.Native.Nat.{ℕ, zero, suc, _+_, _<_, _≤_}
@@ -14,8 +14,8 @@ use Rattle.std.specs.shelf.Text.{sameBytes}
 use Rattle.std.proofs.shelf.Tests.{ltb-true}
 use Rattle.chains.specs.TickOrder.{within}
 use Rattle.sheets.specs.Dues.{anyLetters, anyMark, anyName, anyNumber, endFrom, lineEnds, named, numberLine, numbered, ofForm}
-use Rattle.sheets.specs.Forms.{Form, lettersOf, markOf, nameOf, numberOf}
-use Rattle.sheets.specs.Lines.{cut, fileEndFrom, fileEnds, lineFrom, neat, nextLine, upTo}
+use Rattle.sheets.specs.Forms.{lettersOf, markOf, nameOf, numberOf}
+use Rattle.sheets.specs.Lines.{fileEndFrom, fileEnds, lineFrom, neat, nextLine, upTo}
 use Rattle.sheets.specs.LinesTold.{linesIn}
 use Rattle.sheets.specs.Many.{manyLines, moreLines}
 use Rattle.sheets.specs.Reading.{Reader, State, Told, _>>=_, _>>_, andThen, give, refuse}

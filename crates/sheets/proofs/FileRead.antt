@@ -1,16 +1,14 @@
 -- A whole file, from its size on.
-use mathlib.Core.Path.{_≡_, refl, sym, ap, subst, _∙_}
-use mathlib.Core.Bool.{true, false, cond}
+use mathlib.Core.Path.{_≡_, sym, ap, _∙_}
 use mathlib.Core.List.{List, [], _∷_}
 use Prim.Native.Nat.{ℕ, _<_, _≤_}
 use native.Mathlib.Omega.{arith}
-use lib.Dec.{ltb}
 use lib.ListN.{length}
 use Rattle.std.specs.declared.result.Result.{Result}
 use Rattle.std.specs.declared.result.Result.the-variants.{Ok, Err}
 use Rattle.std.proofs.shelf.Tests.{cond-false, cond-true, le-ltb, lt-ltb}
 use Rattle.sheets.specs.Reading.{Reads, State}
-use Rattle.sheets.specs.Sheets.{Meant, Parses, meantBy, readFile, sheet, sized, valueOf}
+use Rattle.sheets.specs.Sheets.{Parses, meantBy, readFile, sheet, sized, valueOf}
 use Rattle.sheets.specs.declared.faults.Fault.the-variants.{Text, Size}
 use Rattle.sheets.specs.declared.faults.Unread.{Unread}
 use Rattle.sheets.specs.declared.faults.Unread.the-variants.{Bad, Memory}
@@ -28,11 +26,8 @@ pub empty-file : (bytes : List ℕ) → length bytes ≡ 0 → readFile bytes �
 empty-file [] h = sized-is [] (omega arith)
 empty-file (b ∷ bs) h = absurd (omega arith)
 
-start : List ℕ → State
-start bytes = record { left = []; rest = bytes; line = 0 }
-
-begins : (bytes : List ℕ) → 0 < length bytes → length bytes ≤ 65536 → readFile bytes ≡ valueOf (sheet (start bytes))
-unfolding start
+-- a file that is neither too large nor empty means what its lines mean
+pub begins : (bytes : List ℕ) → 0 < length bytes → length bytes ≤ 65536 → readFile bytes ≡ valueOf (sheet (record { left = []; rest = bytes; line = 0 }))
 begins [] some most = absurd (omega arith)
 begins (b ∷ bs) some most = sized-is (b ∷ bs) most
 
@@ -41,7 +36,6 @@ parsed bytes s after (Ok m) e h = e ∙ ap valueOf h
 parsed bytes s after (Err (Bad fault line)) e h = e ∙ ap valueOf h
 parsed bytes s after (Err Memory) e h = tt
 
--- a file that is neither too large nor empty means what its lines mean
+-- and it is parsed as they are
 pub file-read : (bytes : List ℕ) (s after : State) (r : Result Sheet Unread) → 0 < length bytes → length bytes ≤ 65536 → s ≡ record { left = []; rest = bytes; line = 0 } → Reads meantBy (sheet s) r after → Parses bytes r
-unfolding start
 file-read bytes s after r some most e h = parsed bytes s after r (begins bytes some most ∙ ap (λ t. valueOf (sheet t)) (sym e)) h

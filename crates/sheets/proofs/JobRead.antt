@@ -1,5 +1,5 @@
 -- A job whose numbers are in their ranges is refused for its mark alone.
-use mathlib.Core.Path.{_≡_, refl, sym, ap, _∙_}
+use mathlib.Core.Path.{_≡_, refl, sym, _∙_}
 use mathlib.Core.Bool.{Bool, true, false, cond, not}
 use Prim.Native.Nat.{ℕ, _-_}
 use Rattle.std.proofs.shelf.Ways.{tells}
@@ -15,11 +15,9 @@ use Rattle.maps.specs.declared.jobs.faults.JobFault.the-variants.{Mark}
 use Rattle.maps.specs.declared.jobs.faults.JobsFault.{JobsFault}
 use Rattle.maps.specs.declared.jobs.job.Job.{Job}
 use Rattle.maps.specs.declared.jobs.job.Lock.{Lock}
-use Rattle.sheets.specs.Dues.{numbered}
 use Rattle.sheets.specs.JobsBody.{Terms, lockDue, lockIf, termsOf}
 use Rattle.sheets.specs.Reading.{State, Told, give, refuse}
 use Rattle.sheets.specs.declared.faults.Fault.the-variants.{Form}
-use Rattle.sheets.proofs.Ranges.{number-range}
 
 abbrev unmarked : Option Lock → ℕ → Option JobFault
 unmarked o hold = cond (not (marks o hold)) (Some Mark) None

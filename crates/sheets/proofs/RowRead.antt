@@ -1,13 +1,12 @@
 -- Words of grades as points of a table.
 use mathlib.Core.Path.{_≡_, refl, sym, ap, subst, _∙_}
-use mathlib.Core.Bool.{Bool, true, false, cond, _&&_}
+use mathlib.Core.Bool.{Bool, true, false, cond}
 use mathlib.Core.List.{List, [], _∷_, _++_}
 use mathlib.Core.Logic.{_⊎_, inl, inr}
 use Prim.Native.Nat.{ℕ, zero, suc, _+_, _<_, _≤_}
 use native.Mathlib.Nat.{le-of-suc-le-suc}
 use native.Mathlib.Omega.{arith}
-use lib.Dec.{ltb}
-use lib.ListN.{length, getD, drop, take}
+use lib.ListN.{length, getD, drop}
 use Rattle.std.specs.Finite.{nth}
 use Rattle.std.specs.Options.{isSome, valueOr}
 use Rattle.std.specs.Results.{isErr, isOk}
@@ -17,7 +16,7 @@ use Rattle.std.specs.declared.result.Result.{Result}
 use Rattle.std.specs.declared.result.Result.the-variants.{Ok, Err}
 use Rattle.std.proofs.shelf.Lists.{drop-all, drop-more, length-take-le}
 use Rattle.std.proofs.shelf.Maps.{nth-getD, nth-past}
-use Rattle.std.proofs.shelf.Tests.{and-left, and-parts, both-ways, cases-lt, cond-true, cond-false, le-ltb, lt-ltb}
+use Rattle.std.proofs.shelf.Tests.{and-parts, both-ways, cases-lt, le-ltb, lt-ltb}
 use Rattle.chains.specs.GradeOrder.{listed}
 use Rattle.chains.specs.Letters.{placeOf}
 use Rattle.chains.specs.declared.grades.letters.Grades.{Grades}

@@ -4,14 +4,12 @@ use mathlib.Core.List.{List, [], _∷_}
 use Prim.Native.Nat.{ℕ}
 use Rattle.std.specs.declared.option.Option.{Option}
 use Rattle.std.specs.declared.option.Option.the-variants.{None, Some}
-use Rattle.std.specs.declared.result.Result.{Result}
 use Rattle.std.specs.declared.result.Result.the-variants.{Ok, Err}
 use Rattle.std.specs.shelf.Text.{sameBytes}
 use Rattle.chains.specs.TickOrder.{within}
-use Rattle.sheets.specs.Forms as forms
 use Rattle.sheets.specs.Forms.{lettersOf, markOf, nameOf, numberOf}
 use Rattle.sheets.specs.Lines.{nextLine}
-use Rattle.sheets.specs.Reading.{Reader, State, Told, _>>=_, _>>_, give, refuse}
+use Rattle.sheets.specs.Reading.{Reader, _>>=_, _>>_, give, refuse}
 use Rattle.sheets.specs.Words.{wordDue}
 use Rattle.sheets.specs.declared.faults.Fault.{Fault}
 use Rattle.sheets.specs.declared.faults.Fault.the-variants.{Form, Range}

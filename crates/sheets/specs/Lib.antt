@@ -12,3 +12,4 @@ pub mod Reading
 pub mod RowsBody
 pub mod Sheets
 pub mod Words
+pub mod Written

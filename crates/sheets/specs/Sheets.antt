@@ -15,7 +15,6 @@ use Rattle.sheets.specs.Reading.{Reader, State, Told, _>>=_, _>>_, give}
 use Rattle.sheets.specs.RowsBody.{Table, rowsBody, tableOf}
 use Rattle.sheets.specs.declared.contents.Body.{Body}
 use Rattle.sheets.specs.declared.contents.Body.the-variants.{Jobs, Rows}
-use Rattle.sheets.specs.declared.contents.Contents.{Contents}
 use Rattle.sheets.specs.declared.faults.Fault.the-variants.{Text, Size}
 use Rattle.sheets.specs.declared.faults.Unread.{Unread}
 use Rattle.sheets.specs.declared.faults.Unread.the-variants.{Bad, Memory}

@@ -6,6 +6,7 @@ ghost use Rattle.sheets.specs.Contents.{counted};
 ghost use Rattle.sheets.specs.LinesTold.{ToldWithin};
 ghost use Rattle.sheets.specs.Reading.{Reads, stateOf};
 ghost use Rattle.sheets.specs.Sheets.{Parses, bodies, jobsSheet, meantBy, rowsSheet, sheet};
+ghost use Rattle.sheets.specs.Written.{JobsReadBack, RowsReadBack};
 use crate::calls::LetterValue;
 use crate::calls::Plan;
 use crate::calls::TickValue;
@@ -21,6 +22,9 @@ use crate::scanner::Scanner;
 use maps::Jobs;
 use maps::Rows;
 use std::alloc::Global;
+
+// How many bytes a file may have.
+const LARGEST: usize = 65_536;
 
 // What a file tells: a map, and what is asked of it.
 #[derive(Drop)]
@@ -74,8 +78,10 @@ fn read_sheet(heap: Global, scanner: &mut Scanner) -> Result<Sheet, Unread>
 pub fn parse(heap: Global, file: &[u8]) -> Result<Sheet, Unread>
     ensures means { λ r. ⌜ Parses (now (file .entry)) r ⌝ }
     ensures told { λ r. ⌜ ToldWithin (now (file .entry)) r ⌝ }
+    ensures jobs_back { λ r. ⌜ JobsReadBack (now (file .entry)) r ⌝ }
+    ensures rows_back { λ r. ⌜ RowsReadBack (now (file .entry)) r ⌝ }
 {
-    if file.len() > 65_536 {
+    if file.len() > LARGEST {
         return Err(Unread::Bad {
             fault: Fault::Size,
             line: 0,

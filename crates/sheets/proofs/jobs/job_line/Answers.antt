@@ -1,8 +1,7 @@
-use mathlib.Core.Path.{_≡_, refl, sym, ap, _∙_}
 use Rattle.std.proofs.shelf.Results.{err-from-errBy}
 use Rattle.sheets.specs.JobsBody.{jobLine}
 use Rattle.sheets.specs.Reading.{stateOf}
-use Rattle.sheets.proofs.JobRead.{InRanges, job-given, job-refused, terms-are}
+use Rattle.sheets.proofs.JobRead.{job-given, job-refused, terms-are}
 use Rattle.sheets.proofs.Ranges.{number-range}
 use Rattle.sheets.proofs.Readings.{on, stops}
 use Rattle.sheets.proofs.jobs.job_line.Needs as need

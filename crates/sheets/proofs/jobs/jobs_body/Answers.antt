@@ -1,17 +1,9 @@
-use mathlib.Core.Path.{_≡_, refl, sym, ap, _∙_}
-use mathlib.Core.Bool.{true}
 use mathlib.Core.List.{[], map}
-use Prim.Native.Nat.{ℕ, _-_, _≤_}
+use Prim.Native.Nat.{_-_}
 use native.Mathlib.Omega.{arith}
-use lib.ListN.{length}
 use Rattle.std.specs.Of.Vec.{vec-items, vec-len}
-use Rattle.std.specs.declared.option.Option.the-variants.{None}
 use Rattle.std.proofs.shelf.Lists.{length-map}
 use Rattle.std.proofs.shelf.Results.{err-from-errBy}
-use Rattle.std.proofs.shelf.Tests.{and-parts, leb-true}
-use Rattle.std.proofs.shelf.Ways.{tells}
-use Rattle.chains.specs.TickOrder.{within}
-use Rattle.maps.specs.JobRanges.{jobsFault}
 use Rattle.sheets.specs.JobsBody.{jobLine, jobsBody, termsOf}
 use Rattle.sheets.proofs.JobRead.{panel-fits}
 use Rattle.sheets.proofs.ManyLines.{many-count}

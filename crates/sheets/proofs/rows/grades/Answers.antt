@@ -1,4 +1,3 @@
-use mathlib.Core.Path.{_≡_, refl, sym, ap, _∙_}
 use Rattle.std.proofs.shelf.Results.{err-from-errBy}
 use Rattle.sheets.specs.RowsBody.{gradesDue}
 use Rattle.sheets.proofs.Readings.{stops}

@@ -1,4 +1,3 @@
-use mathlib.Core.Path.{_≡_, refl, sym, ap, _∙_}
 use Rattle.std.proofs.shelf.Results.{err-from-errBy}
 use Rattle.sheets.specs.Dues.{anyNumber}
 use Rattle.sheets.specs.Forms.{numberOf}

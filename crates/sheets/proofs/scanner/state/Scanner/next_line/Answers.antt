@@ -1,15 +1,13 @@
-use mathlib.Core.Path.{_≡_, refl, sym, ap, _∙_}
+use mathlib.Core.Path.{_≡_, sym, ap, _∙_}
 use mathlib.Core.Bool.{true, false}
 use mathlib.Core.Logic.{_⊎_, inl, inr}
-use Prim.Native.Nat.{suc, _+_, _-_, _<_, _≤_}
+use Prim.Native.Nat.{_+_, _-_, _≤_}
 use native.Mathlib.Omega.{arith}
 use native.Mathlib.Numerals.{add-one}
 use borrow.Author.Needs.{needs}
 use lib.ListN.{length, take, drop}
-use Rattle.std.specs.declared.result.Result.the-variants.{Err}
 use Rattle.std.proofs.shelf.Lists.{take-rest}
 use Rattle.sheets.specs.Lines.{lineFrom, neat, nextLine}
-use Rattle.sheets.specs.declared.faults.Fault.the-variants.{Text}
 use Rattle.sheets.proofs.LineSteps.{front-is, line-fails, line-goes, line-missing}
 use Rattle.sheets.proofs.scanner.state.Scanner.next_line.Needs as need
 use Rattle.sheets.proofs.scanner.state.Scanner.next_line.Needs.{then-end-rest·by·then-end-rest, then-end-rest·by·else-end-rest·then-not-is-neat}

@@ -1,7 +1,6 @@
 use mathlib.Core.Path.{_≡_}
 use mathlib.Core.Bool.{true, false}
 use native.Mathlib.Omega.{arith}
-use borrow.Author.Needs.{needs}
 use Rattle.std.proofs.shelf.Results.{err-from-errBy}
 use Rattle.std.proofs.shelf.Ways.{tells}
 use Rattle.chains.specs.TickOrder.{within}

@@ -1,8 +1,6 @@
-use mathlib.Core.Path.{_≡_, refl, sym, ap, _∙_}
-use Prim.Native.Nat.{suc, _+_, _-_, _<_, _≤_}
-use native.Mathlib.Omega.{arith}
+use Prim.Native.Nat.{_-_}
 use borrow.Author.Needs.{needs}
-use lib.ListN.{length, take, drop}
+use lib.ListN.{take}
 use Rattle.std.proofs.shelf.Lists.{take-rest}
 use Rattle.sheets.specs.Reading.{stateOf}
 use Rattle.sheets.proofs.LineSteps.{front-is, word-goes, word-missing}
