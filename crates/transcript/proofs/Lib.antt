@@ -1,0 +1,5 @@
+pub mod Alike
+pub mod Going
+pub mod Making
+pub mod Spoken
+pub mod Studied

@@ -1,0 +1,6 @@
+pub mod Lines
+pub mod Making
+pub mod Ran
+pub mod Studied
+pub mod Text
+pub mod Transcript
