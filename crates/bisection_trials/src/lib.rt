@@ -1,4 +1,6 @@
 // Searches driven by hand, question by question, and their outcomes.
+#![tactic(auto)]
+
 ghost use Rattle.std.specs.Prelude.{◌≡◌, [], replicate, None};
 ghost use Rattle.bisection.specs.Levels.{opened};
 ghost use Rattle.bisection.specs.Machine.{levels_of, in_range};

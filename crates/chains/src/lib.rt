@@ -1,4 +1,6 @@
 // Chains: finite lists of distinct values, low first. A value's place, counted from 0, is its rank.
+#![tactic(auto)]
+
 pub mod chain;
 pub mod grades;
 pub mod ticks;

@@ -1,4 +1,6 @@
 // Runs each example sheet, and tells whether it prints what stands beside it.
+#![tactic(auto)]
+
 use std::fs;
 use transcript::run_file;
 

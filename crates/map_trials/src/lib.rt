@@ -1,4 +1,6 @@
 // Trials of chains, maps and layers, with two maps of their own: one that counts what it is asked, and one that always faults.
+#![tactic(auto)]
+
 pub mod broken;
 pub mod tally;
 #[cfg(test)]

@@ -1,4 +1,6 @@
 // Maps: what answers a question about a point. Jobs and rows answer by their sheets; layers answer by the map below.
+#![tactic(auto)]
+
 pub mod jobs;
 mod layer;
 pub mod map;

@@ -2,6 +2,8 @@
 //
 // A point is eight ranks, one for each coordinate. A panel with fewer coordinates leaves the rest at rank 0, as if each of
 // them had a single member.
+#![tactic(auto)]
+
 ghost use Rattle.std.specs.Prelude.{◌≡◌, ◌<◌, IfSome};
 ghost use Rattle.points.specs.Points.{first_above, is_point, same_ranks};
 

@@ -1,4 +1,6 @@
 // settle: a study of one panel's job sheet, from its first call to its last.
+#![tactic(auto)]
+
 use anyhow::anyhow;
 use chains::Chain;
 use maps::{Job, Jobs, Memo};

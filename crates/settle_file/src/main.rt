@@ -1,4 +1,6 @@
 // settle: reads a sheet file from standard input, and prints what its calls tell.
+#![tactic(auto)]
+
 ghost use Rattle.std.specs.Prelude.{◌≡◌, ◌+◌, ◌≤◌, IfOk, vec_len};
 
 use std::alloc::Global;

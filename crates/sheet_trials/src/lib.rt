@@ -1,4 +1,6 @@
 // Trials of sheet files: a small file for each fault and each boundary, worked by hand.
+#![tactic(auto)]
+
 #[cfg(test)]
 mod tests;
 

@@ -1,4 +1,6 @@
 // Sheet files: what a text file says about a panel, or which fault it has and in which line.
+#![tactic(auto)]
+
 mod calls;
 mod classes;
 mod contents;

@@ -1,4 +1,6 @@
 // A study: a map that is asked, raised, lowered and searched within an allowance of questions.
+#![tactic(auto)]
+
 mod calls;
 mod reply;
 mod seek;

@@ -1,4 +1,6 @@
 // Trials of studies, with cases worked by hand.
+#![tactic(auto)]
+
 ghost use Rattle.std.specs.Prelude.{◌≡◌, [], ◌∷◌};
 
 use points::{Entry, Ranks};

@@ -1,4 +1,6 @@
 // The worked examples of the engine: as one statement, and as a small piece of code that makes studies and ends them.
+#![tactic(auto)]
+
 mod anew;
 mod sheet;
 
