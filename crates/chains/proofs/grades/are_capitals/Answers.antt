@@ -4,8 +4,8 @@ use Rattle.chains.specs.Letters.{capitals, is_capital}
 use Rattle.chains.specs.LetterLaws.{every_stops, every_goes}
 use Rattle.chains.proofs.grades.are_capitals.Goals as goal
 
-pub returns-then-not-is-capital : goal.returns-then-not-is-capital
-returns-then-not-is-capital c =
+pub returns-then-not-is_capital : goal.returns-then-not-is_capital
+returns-then-not-is_capital c =
     sym (every_stops capitals (λ x _. is_capital x) (λ _ _. refl) c.args.letters.now c.loop-letter.letter-index (search rules) (search rules))
     ∙ c.loop-letter.invariant
 

@@ -4,12 +4,12 @@ use Rattle.chains.specs.Letters.{different, place_of}
 use Rattle.chains.specs.LetterLaws.{every_stops, every_goes}
 use Rattle.chains.proofs.grades.are_different.Goals as goal
 
-pub returns-then-is-some : goal.returns-then-is-some
-returns-then-is-some c =
+pub returns-then-is_some : goal.returns-then-is_some
+returns-then-is_some c =
     let xs = c.args.letters.now in
     let rest = ap (λ ys. not (is_some (place_of ys (get_or xs c.loop-i.i 0)))) (sym (take_rest xs (c.loop-i.i + 1))) in
     sym (every_stops different (λ x ys. not (is_some (place_of ys x))) (λ _ _. refl) xs c.loop-i.i (search rules)
-    (rest ∙ ap (λ o. not (is_some o)) (sym c.place-of.ensures) ∙ ap not (sym c.if-is-some.ensures)))
+    (rest ∙ ap (λ o. not (is_some o)) (sym c.place_of.ensures) ∙ ap not (sym c.if-is_some.ensures)))
     ∙ c.loop-i.invariant
 
 pub loop-i-preserved : goal.loop-i-preserved
@@ -17,7 +17,7 @@ loop-i-preserved c =
     let xs = c.args.letters.now in
     let rest = ap (λ ys. not (is_some (place_of ys (get_or xs c.loop-i.i 0)))) (sym (take_rest xs (c.loop-i.i + 1))) in
     sym (every_goes different (λ x ys. not (is_some (place_of ys x))) (λ _ _. refl) xs c.loop-i.i (search rules)
-    (rest ∙ ap (λ o. not (is_some o)) (sym c.place-of.ensures) ∙ ap not (sym c.if-is-some.ensures)))
+    (rest ∙ ap (λ o. not (is_some o)) (sym c.place_of.ensures) ∙ ap not (sym c.if-is_some.ensures)))
     ∙ c.loop-i.invariant
 
 pub returns : goal.returns

@@ -5,8 +5,8 @@ use Rattle.chains.specs.Letters.{place_of}
 use Rattle.chains.specs.LetterLaws.{place_below}
 use Rattle.chains.proofs.grades.GradesChain.rank.Goals as goal
 
-pub overflow-cast-result : goal.overflow-cast-result
-overflow-cast-result c =
+pub overflow_cast-result : goal.overflow_cast-result
+overflow_cast-result c =
     let self = c.args.self.now in
     let h = place_below (listed self) c.args.value c.in-Some.place (search rules) in
     omega (arith, h, length-take-le self.count self.letters (omega arith))

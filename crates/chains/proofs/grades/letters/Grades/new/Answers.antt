@@ -19,15 +19,15 @@ loop-i-preserved c =
           ∙ sym (take_more xs i 0 c.loop-i-test.true),
     )
 
-pub invariant-of-result : goal.invariant-of-result
-invariant-of-result c =
+pub invariant_of-result : goal.invariant_of-result
+invariant_of-result c =
     let same = held c.args.letters.now c.loop-i.held c.loop-i.i (omega arith) (omega arith) c.loop-i.invariant.1 in (
       c.loop-i.invariant.0,
       (
         omega arith,
         (
           omega arith,
-          (ap capitals same ∙ sym c.if-not-are-capitals.ensures, (ap different same ∙ sym c.if-not-are-different.ensures, tt)),
+          (ap capitals same ∙ sym c.if-not-are_capitals.ensures, (ap different same ∙ sym c.if-not-are_different.ensures, tt)),
         ),
       ),
     )
@@ -35,6 +35,6 @@ invariant-of-result c =
 pub returns : goal.returns
 returns c =
     let xs = c.args.letters.now in (
-      no_fault xs (omega arith) (omega arith) (sym c.if-not-are-capitals.ensures) (sym c.if-not-are-different.ensures),
+      no_fault xs (omega arith) (omega arith) (sym c.if-not-are_capitals.ensures) (sym c.if-not-are_different.ensures),
       held xs c.loop-i.held c.loop-i.i (omega arith) (omega arith) c.loop-i.invariant.1,
     )
