@@ -46,8 +46,8 @@ there_is c =
       length-take-le c.loop-k.self.dims c.loop-k.self.at (omega arith),
     )
 
-pub overflow-add-k : goal.overflow-add-k
-overflow-add-k c = omega (arith, there_is c)
+pub overflow_add-k : goal.overflow_add-k
+overflow_add-k c = omega (arith, there_is c)
 
 pub loop-k-smaller : goal.loop-k-smaller
 loop-k-smaller c = omega (arith, there_is c)

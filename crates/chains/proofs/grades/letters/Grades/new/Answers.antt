@@ -21,16 +21,14 @@ loop-i-preserved c =
 
 pub invariant_of-result : goal.invariant_of-result
 invariant_of-result c =
-    let same = held c.args.letters.now c.loop-i.held c.loop-i.i (omega arith) (omega arith) c.loop-i.invariant.1 in (
-      c.loop-i.invariant.0,
-      (
-        omega arith,
-        (
-          omega arith,
-          (ap capitals same ∙ sym c.if-not-are_capitals.ensures, (ap different same ∙ sym c.if-not-are_different.ensures, tt)),
-        ),
-      ),
-    )
+    let same = held c.args.letters.now c.loop-i.held c.loop-i.i (omega arith) (omega arith) c.loop-i.invariant.1 in
+    record {
+      room = c.loop-i.invariant.0;
+      some = omega arith;
+      most = omega arith;
+      capital = ap capitals same ∙ sym c.if-not-are_capitals.ensures;
+      distinct = ap different same ∙ sym c.if-not-are_different.ensures;
+    }
 
 pub returns : goal.returns
 returns c =
