@@ -22,7 +22,7 @@ returns-in-Ok g c =
       answer = ap passed below.answer ∙ sym (asked_tells r m q at_point fresh);
       leads = asked_leads r m q at_point fresh n (record { below = subst (λ k. r.puts m.map q k) moved below.leads; keeps = keeps });
       same = memo_same r g.met.M.Map.rules_laws m n q (subst (λ k. SameRules r m.map k) moved below.same) keeps;
-      same-order = through_same (λ k. k.map) g.M.Chain.order m n (subst (λ k. SameOrder g.M.Chain.order m.map k) moved below.same-order);
+      same_order = through_same (λ k. k.map) g.M.Chain.order m n (subst (λ k. SameOrder g.M.Chain.order m.map k) moved below.same_order);
     }
 
 pub returns-in-Err : goal.returns-in-Err
@@ -38,5 +38,5 @@ returns-in-Err g c =
       answer = ap Err c.deeper.ensures ∙ ap passed below.answer ∙ sym (asked_tells r m q at_point fresh);
       leads = asked_leads r m q at_point fresh _ (record { below = below.leads; keeps = keeps });
       same = memo_same r g.met.M.Map.rules_laws m _ q below.same keeps;
-      same-order = through_same (λ k. k.map) g.M.Chain.order m _ below.same-order;
+      same_order = through_same (λ k. k.map) g.M.Chain.order m _ below.same_order;
     }

@@ -4,13 +4,13 @@ use Rattle.maps.proofs.JobsMonotone.{jobs_monotone}
 use Rattle.maps.proofs.PanelMade.{refused_step, panel_made}
 use Rattle.maps.proofs.jobs.panel.Jobs.new.Goals as goal
 
-pub returns-in-default : goal.returns-in-default
-returns-in-default c =
+pub returns-in_default : goal.returns-in_default
+returns-in_default c =
     record {
       made =
-          refused_step c.args.step c.longest-size.result (vec_len c.args.jobs) c.in-default.field-0
-          (omega (arith, longest_some c.as-slice.result.now, c.longest-size.ensures.value)) c.longest-size.ensures.bound
-          c.in-default.ensures;
+          refused_step c.args.step c.longest-size.result (vec_len c.args.jobs) c.in_default.field-0
+          (omega (arith, longest_some c.as_slice.result.now, c.longest-size.ensures.value)) c.longest-size.ensures.bound
+          c.in_default.ensures;
       monotone = tt;
     }
 

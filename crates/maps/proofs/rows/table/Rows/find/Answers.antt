@@ -8,14 +8,14 @@ use Rattle.maps.proofs.rows.table.Rows.find.Goals as goal
 pub index-requires-in-Some : goal.index-requires-in-Some
 index-requires-in-Some c =
     let self = c.args.self.now in
-    let stands = read_place (vec_items self.places) c.args.point.now c.slot-of.result (vec_len self.places) c.index.result.now (Some c.in-Some.place) c.slot-of.ensures.value c.slot-of.ensures.bound self.spread self.places.ok.0 c.index.ensures c.in-Some.is in
+    let stands = read_place (vec_items self.places) c.args.point.now c.slot_of.result (vec_len self.places) c.index.result.now (Some c.in-Some.place) c.slot_of.ensures.value c.slot_of.ensures.bound self.spread self.places.ok.0 c.index.ensures c.in-Some.is in
     omega (arith, self.listed (slot_of c.args.point.now) c.in-Some.place stands, self.rows.ok.0)
 
 pub returns-in-Some : goal.returns-in-Some
 returns-in-Some c =
     let self = c.args.self.now in
     let place = c.in-Some.place in
-    let stands = read_place (vec_items self.places) c.args.point.now c.slot-of.result (vec_len self.places) c.index.result.now (Some place) c.slot-of.ensures.value c.slot-of.ensures.bound self.spread self.places.ok.0 c.index.ensures c.in-Some.is in
+    let stands = read_place (vec_items self.places) c.args.point.now c.slot_of.result (vec_len self.places) c.index.result.now (Some place) c.slot_of.ensures.value c.slot_of.ensures.bound self.spread self.places.ok.0 c.index.ensures c.in-Some.is in
     let found = look_some self.dims self.grades.count (rows_of self) (vec_items self.places) c.args.point.now self.most self.grades.most self.points self.placed c.requires place self.listed self.apart stands in
     let below = self.listed (slot_of c.args.point.now) place stands in
     let read = get_or_read_under (rows_of self) place (vec_len self.rows) c.index-in-Some.result.now (record { point = []; answer = [] }) c.index-in-Some.ensures (omega (arith, below, self.rows.ok.0)) self.rows.ok.0 in
@@ -24,5 +24,5 @@ returns-in-Some c =
 pub returns-in-None : goal.returns-in-None
 returns-in-None c =
     let self = c.args.self.now in
-    let free = read_place (vec_items self.places) c.args.point.now c.slot-of.result (vec_len self.places) c.index.result.now None c.slot-of.ensures.value c.slot-of.ensures.bound self.spread self.places.ok.0 c.index.ensures c.in-None.is in
+    let free = read_place (vec_items self.places) c.args.point.now c.slot_of.result (vec_len self.places) c.index.result.now None c.slot_of.ensures.value c.slot_of.ensures.bound self.spread self.places.ok.0 c.index.ensures c.in-None.is in
     sym (look_none self.dims self.grades.count (rows_of self) (vec_items self.places) c.args.point.now self.most self.grades.most self.points self.placed c.requires free)
