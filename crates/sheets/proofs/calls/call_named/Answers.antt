@@ -3,46 +3,46 @@ use Rattle.sheets.specs.CallsBody.{call_named}
 use Rattle.sheets.proofs.Readings.{fails_or, passes_or, stops_or, told_or}
 use Rattle.sheets.proofs.calls.call_named.Goals as goal
 
-pub returns-in-err-asked : goal.returns-in-err-asked
+pub returns-in_err-asked : goal.returns-in_err-asked
 unfolding call_named
-returns-in-err-asked g c =
-    let p = err_from_is_err_and c.from-residual.result c.from-residual.ensures.1 in
-    rw (p.1, p.2) (passes_or _ _ _ _ _ c.if-is-name.ensures (stops_or _ _ _ c.in-err-asked.ensures))
+returns-in_err-asked g c =
+    let p = err_from_is_err_and c.from_residual.result c.from_residual.ensures.1 in
+    rw (p.1, p.2) (passes_or _ _ _ _ _ c.if-is_name.ensures (stops_or _ _ _ c.in_err-asked.ensures))
 
-pub returns-in-err-raised : goal.returns-in-err-raised
+pub returns-in_err-raised : goal.returns-in_err-raised
 unfolding call_named
-returns-in-err-raised g c =
-    let p = err_from_is_err_and c.from-residual-in-err-raised.result c.from-residual-in-err-raised.ensures.1 in
-    rw (p.1, p.2) (fails_or _ _ _ _ _ c.if-is-name.ensures (passes_or _ _ _ _ _ c.if-is-name-2.ensures (stops_or _ _ _ c.in-err-raised.ensures)))
+returns-in_err-raised g c =
+    let p = err_from_is_err_and c.from_residual-in_err-raised.result c.from_residual-in_err-raised.ensures.1 in
+    rw (p.1, p.2) (fails_or _ _ _ _ _ c.if-is_name.ensures (passes_or _ _ _ _ _ c.if-is_name-2.ensures (stops_or _ _ _ c.in_err-raised.ensures)))
 
-pub returns-in-err-lowered : goal.returns-in-err-lowered
+pub returns-in_err-lowered : goal.returns-in_err-lowered
 unfolding call_named
-returns-in-err-lowered g c =
-    let p = err_from_is_err_and c.from-residual-in-err-lowered.result c.from-residual-in-err-lowered.ensures.1 in
-    rw (p.1, p.2) (fails_or _ _ _ _ _ c.if-is-name.ensures (fails_or _ _ _ _ _ c.if-is-name-2.ensures (passes_or _ _ _ _ _ c.if-is-name-3.ensures (stops_or _ _ _ c.in-err-lowered.ensures))))
+returns-in_err-lowered g c =
+    let p = err_from_is_err_and c.from_residual-in_err-lowered.result c.from_residual-in_err-lowered.ensures.1 in
+    rw (p.1, p.2) (fails_or _ _ _ _ _ c.if-is_name.ensures (fails_or _ _ _ _ _ c.if-is_name-2.ensures (passes_or _ _ _ _ _ c.if-is_name-3.ensures (stops_or _ _ _ c.in_err-lowered.ensures))))
 
-pub returns-in-err-line-end : goal.returns-in-err-line-end
+pub returns-in_err-line_end : goal.returns-in_err-line_end
 unfolding call_named
-returns-in-err-line-end g c =
-    let p = err_from_is_err_and c.from-residual-in-err-line-end.result c.from-residual-in-err-line-end.ensures.1 in
-    rw (p.1, p.2) (fails_or _ _ _ _ _ c.if-is-name.ensures (fails_or _ _ _ _ _ c.if-is-name-2.ensures (fails_or _ _ _ _ _ c.if-is-name-3.ensures (passes_or _ _ _ _ _ c.if-is-name-4.ensures (stops_or _ _ _ (told_or _ _ c.in-err-line-end.ensures))))))
+returns-in_err-line_end g c =
+    let p = err_from_is_err_and c.from_residual-in_err-line_end.result c.from_residual-in_err-line_end.ensures.1 in
+    rw (p.1, p.2) (fails_or _ _ _ _ _ c.if-is_name.ensures (fails_or _ _ _ _ _ c.if-is_name-2.ensures (fails_or _ _ _ _ _ c.if-is_name-3.ensures (passes_or _ _ _ _ _ c.if-is_name-4.ensures (stops_or _ _ _ (told_or _ _ c.in_err-line_end.ensures))))))
 
-pub returns-in-ok-asked : goal.returns-in-ok-asked
+pub returns-in_ok-asked : goal.returns-in_ok-asked
 unfolding call_named
-returns-in-ok-asked g c = rw (← c.if-is-name.ensures, c.in-ok-asked.ensures)
+returns-in_ok-asked g c = rw (← c.if-is_name.ensures, c.in_ok-asked.ensures)
 
-pub returns-in-ok-raised : goal.returns-in-ok-raised
+pub returns-in_ok-raised : goal.returns-in_ok-raised
 unfolding call_named
-returns-in-ok-raised g c = rw (← c.if-is-name.ensures, ← c.if-is-name-2.ensures, c.in-ok-raised.ensures)
+returns-in_ok-raised g c = rw (← c.if-is_name.ensures, ← c.if-is_name-2.ensures, c.in_ok-raised.ensures)
 
-pub returns-in-ok-lowered : goal.returns-in-ok-lowered
+pub returns-in_ok-lowered : goal.returns-in_ok-lowered
 unfolding call_named
-returns-in-ok-lowered g c = rw (← c.if-is-name.ensures, ← c.if-is-name-2.ensures, ← c.if-is-name-3.ensures, c.in-ok-lowered.ensures)
+returns-in_ok-lowered g c = rw (← c.if-is_name.ensures, ← c.if-is_name-2.ensures, ← c.if-is_name-3.ensures, c.in_ok-lowered.ensures)
 
-pub returns-in-ok-line-end : goal.returns-in-ok-line-end
+pub returns-in_ok-line_end : goal.returns-in_ok-line_end
 unfolding call_named
-returns-in-ok-line-end g c = rw (← c.if-is-name.ensures, ← c.if-is-name-2.ensures, ← c.if-is-name-3.ensures, ← c.if-is-name-4.ensures, c.in-ok-line-end.ensures)
+returns-in_ok-line_end g c = rw (← c.if-is_name.ensures, ← c.if-is_name-2.ensures, ← c.if-is_name-3.ensures, ← c.if-is_name-4.ensures, c.in_ok-line_end.ensures)
 
-pub returns-else-is-name-4 : goal.returns-else-is-name-4
+pub returns-else-is_name-4 : goal.returns-else-is_name-4
 unfolding call_named
-returns-else-is-name-4 g c = rw (c.bad.ensures, ← c.if-is-name.ensures, ← c.if-is-name-2.ensures, ← c.if-is-name-3.ensures, ← c.if-is-name-4.ensures)
+returns-else-is_name-4 g c = rw (c.bad.ensures, ← c.if-is_name.ensures, ← c.if-is_name-2.ensures, ← c.if-is_name-3.ensures, ← c.if-is_name-4.ensures)

@@ -3,30 +3,30 @@ use Rattle.std.proofs.lemmas.Result.{err_from_is_err_and}
 use Rattle.sheets.proofs.Readings.{on, stops}
 use Rattle.sheets.proofs.contents.body_line.Goals as goal
 
-pub returns-in-err-next-line : goal.returns-in-err-next-line
+pub returns-in_err-next_line : goal.returns-in_err-next_line
 unfolding body_line
-returns-in-err-next-line c =
-    let p = err_from_is_err_and c.from-residual.result c.from-residual.ensures.1 in
-    rw (p.1, p.2) (stops _ _ _ c.in-err-next-line.ensures)
+returns-in_err-next_line c =
+    let p = err_from_is_err_and c.from_residual.result c.from_residual.ensures.1 in
+    rw (p.1, p.2) (stops _ _ _ c.in_err-next_line.ensures)
 
-pub returns-in-err-name : goal.returns-in-err-name
+pub returns-in_err-name : goal.returns-in_err-name
 unfolding body_line
-returns-in-err-name c =
-    let p = err_from_is_err_and c.from-residual-in-err-name.result c.from-residual-in-err-name.ensures.1 in
-    rw (p.1, p.2) (on _ _ _ _ _ c.in-ok-next-line.ensures (stops _ _ _ c.in-err-name.ensures))
+returns-in_err-name c =
+    let p = err_from_is_err_and c.from_residual-in_err-name.result c.from_residual-in_err-name.ensures.1 in
+    rw (p.1, p.2) (on _ _ _ _ _ c.in_ok-next_line.ensures (stops _ _ _ c.in_err-name.ensures))
 
-pub returns-in-err-body : goal.returns-in-err-body
+pub returns-in_err-body : goal.returns-in_err-body
 unfolding body_line
-returns-in-err-body c =
-    let p = err_from_is_err_and c.from-residual-in-err-body.result c.from-residual-in-err-body.ensures.1 in
-    rw (p.1, p.2) (on _ _ _ _ _ c.in-ok-next-line.ensures (on _ _ _ _ _ c.in-ok-name.ensures (stops _ _ _ c.in-err-body.ensures)))
+returns-in_err-body c =
+    let p = err_from_is_err_and c.from_residual-in_err-body.result c.from_residual-in_err-body.ensures.1 in
+    rw (p.1, p.2) (on _ _ _ _ _ c.in_ok-next_line.ensures (on _ _ _ _ _ c.in_ok-name.ensures (stops _ _ _ c.in_err-body.ensures)))
 
-pub returns-in-err-line-end : goal.returns-in-err-line-end
+pub returns-in_err-line_end : goal.returns-in_err-line_end
 unfolding body_line
-returns-in-err-line-end c =
-    let p = err_from_is_err_and c.from-residual-in-err-line-end.result c.from-residual-in-err-line-end.ensures.1 in
-    rw (p.1, p.2) (on _ _ _ _ _ c.in-ok-next-line.ensures (on _ _ _ _ _ c.in-ok-name.ensures (on _ _ _ _ _ c.in-ok-body.ensures (stops _ _ _ c.in-err-line-end.ensures))))
+returns-in_err-line_end c =
+    let p = err_from_is_err_and c.from_residual-in_err-line_end.result c.from_residual-in_err-line_end.ensures.1 in
+    rw (p.1, p.2) (on _ _ _ _ _ c.in_ok-next_line.ensures (on _ _ _ _ _ c.in_ok-name.ensures (on _ _ _ _ _ c.in_ok-body.ensures (stops _ _ _ c.in_err-line_end.ensures))))
 
 pub returns : goal.returns
 unfolding body_line
-returns c = rw (c.in-ok-next-line.ensures, c.in-ok-name.ensures, c.in-ok-body.ensures, c.in-ok-line-end.ensures)
+returns c = rw (c.in_ok-next_line.ensures, c.in_ok-name.ensures, c.in_ok-body.ensures, c.in_ok-line_end.ensures)

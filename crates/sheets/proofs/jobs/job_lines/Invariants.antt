@@ -6,5 +6,5 @@ use Rattle.sheets.proofs.jobs.job_lines.Given as goal
 
 abbrev pub invariant-loop-i : goal.invariant-loop-i
 invariant-loop-i l =
-    more_lines (λ _. job_line) (l.lines - l.-i) (map terms_of (vec_items l.jobs)) (state_of l.scanner)
+    more_lines (λ _. job_line) (l.lines - l._i) (map terms_of (vec_items l.jobs)) (state_of l.scanner)
     ≡ many_lines (λ _. job_line) l.lines (state_of l.initial.scanner)

@@ -3,36 +3,36 @@ use Rattle.std.proofs.lemmas.Result.{err_from_is_err_and}
 use Rattle.sheets.proofs.Readings.{on, stops}
 use Rattle.sheets.proofs.rows.grades_line.Goals as goal
 
-pub returns-in-err-next-line : goal.returns-in-err-next-line
+pub returns-in_err-next_line : goal.returns-in_err-next_line
 unfolding grades_line
-returns-in-err-next-line c =
-    let p = err_from_is_err_and c.from-residual.result c.from-residual.ensures.1 in
-    rw (p.1, p.2) (stops _ _ _ c.in-err-next-line.ensures)
+returns-in_err-next_line c =
+    let p = err_from_is_err_and c.from_residual.result c.from_residual.ensures.1 in
+    rw (p.1, p.2) (stops _ _ _ c.in_err-next_line.ensures)
 
-pub returns-in-err-name : goal.returns-in-err-name
+pub returns-in_err-name : goal.returns-in_err-name
 unfolding grades_line
-returns-in-err-name c =
-    let p = err_from_is_err_and c.from-residual-in-err-name.result c.from-residual-in-err-name.ensures.1 in
-    rw (p.1, p.2) (on _ _ _ _ _ c.in-ok-next-line.ensures (stops _ _ _ c.in-err-name.ensures))
+returns-in_err-name c =
+    let p = err_from_is_err_and c.from_residual-in_err-name.result c.from_residual-in_err-name.ensures.1 in
+    rw (p.1, p.2) (on _ _ _ _ _ c.in_ok-next_line.ensures (stops _ _ _ c.in_err-name.ensures))
 
-pub returns-in-err-grades : goal.returns-in-err-grades
+pub returns-in_err-grades : goal.returns-in_err-grades
 unfolding grades_line
-returns-in-err-grades c =
-    let p = err_from_is_err_and c.from-residual-in-err-grades.result c.from-residual-in-err-grades.ensures.1 in
-    rw (p.1, p.2) (on _ _ _ _ _ c.in-ok-next-line.ensures (on _ _ _ _ _ c.in-ok-name.ensures (stops _ _ _ c.in-err-grades.ensures)))
+returns-in_err-grades c =
+    let p = err_from_is_err_and c.from_residual-in_err-grades.result c.from_residual-in_err-grades.ensures.1 in
+    rw (p.1, p.2) (on _ _ _ _ _ c.in_ok-next_line.ensures (on _ _ _ _ _ c.in_ok-name.ensures (stops _ _ _ c.in_err-grades.ensures)))
 
-pub returns-in-err-dims : goal.returns-in-err-dims
+pub returns-in_err-dims : goal.returns-in_err-dims
 unfolding grades_line
-returns-in-err-dims c =
-    let p = err_from_is_err_and c.from-residual-in-err-dims.result c.from-residual-in-err-dims.ensures.1 in
-    rw (p.1, p.2) (on _ _ _ _ _ c.in-ok-next-line.ensures (on _ _ _ _ _ c.in-ok-name.ensures (on _ _ _ _ _ c.in-ok-grades.ensures (stops _ _ _ c.in-err-dims.ensures))))
+returns-in_err-dims c =
+    let p = err_from_is_err_and c.from_residual-in_err-dims.result c.from_residual-in_err-dims.ensures.1 in
+    rw (p.1, p.2) (on _ _ _ _ _ c.in_ok-next_line.ensures (on _ _ _ _ _ c.in_ok-name.ensures (on _ _ _ _ _ c.in_ok-grades.ensures (stops _ _ _ c.in_err-dims.ensures))))
 
-pub returns-in-err-line-end : goal.returns-in-err-line-end
+pub returns-in_err-line_end : goal.returns-in_err-line_end
 unfolding grades_line
-returns-in-err-line-end c =
-    let p = err_from_is_err_and c.from-residual-in-err-line-end.result c.from-residual-in-err-line-end.ensures.1 in
-    rw (p.1, p.2) (on _ _ _ _ _ c.in-ok-next-line.ensures (on _ _ _ _ _ c.in-ok-name.ensures (on _ _ _ _ _ c.in-ok-grades.ensures (on _ _ _ _ _ c.in-ok-dims.ensures (stops _ _ _ c.in-err-line-end.ensures)))))
+returns-in_err-line_end c =
+    let p = err_from_is_err_and c.from_residual-in_err-line_end.result c.from_residual-in_err-line_end.ensures.1 in
+    rw (p.1, p.2) (on _ _ _ _ _ c.in_ok-next_line.ensures (on _ _ _ _ _ c.in_ok-name.ensures (on _ _ _ _ _ c.in_ok-grades.ensures (on _ _ _ _ _ c.in_ok-dims.ensures (stops _ _ _ c.in_err-line_end.ensures)))))
 
 pub returns : goal.returns
 unfolding grades_line
-returns c = rw (c.in-ok-next-line.ensures, c.in-ok-name.ensures, c.in-ok-grades.ensures, c.in-ok-dims.ensures, c.in-ok-line-end.ensures)
+returns c = rw (c.in_ok-next_line.ensures, c.in_ok-name.ensures, c.in_ok-grades.ensures, c.in_ok-dims.ensures, c.in_ok-line_end.ensures)

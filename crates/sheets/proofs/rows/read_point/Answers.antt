@@ -6,30 +6,30 @@ use Rattle.sheets.proofs.Readings.{stops}
 use Rattle.sheets.proofs.RowRead.{ranked_point}
 use Rattle.sheets.proofs.rows.read_point.Goals as goal
 
-pub returns-in-err-text : goal.returns-in-err-text
+pub returns-in_err-text : goal.returns-in_err-text
 unfolding point_due
-returns-in-err-text c =
-    let p = err_from_is_err_and c.from-residual.result c.from-residual.ensures.1 in
-    rw (p.1, p.2) record { read = stops _ _ _ c.in-err-text.ensures; point = tt }
+returns-in_err-text c =
+    let p = err_from_is_err_and c.from_residual.result c.from_residual.ensures.1 in
+    rw (p.1, p.2) record { read = stops _ _ _ c.in_err-text.ensures; point = tt }
 
 pub returns-then-text-dims : goal.returns-then-text-dims
 unfolding point_due
 returns-then-text-dims c =
-    let other : eqb (length c.in-ok-text.text.now) c.args.rows.now.dims ≡ false = ne_eqb _ _ (λ e. c.if-text-dims.true (e ∙ sym c.dims.ensures)) in
-    rw c.bad.ensures record { read = rw (c.in-ok-text.ensures, other); point = tt }
+    let other : eqb (length c.in_ok-text.text.now) c.args.rows.now.dims ≡ false = ne_eqb _ _ (λ e. c.if-text-dims.true (e ∙ sym c.dims.ensures)) in
+    rw c.bad.ensures record { read = rw (c.in_ok-text.ensures, other); point = tt }
 
 pub returns-in-Some : goal.returns-in-Some
 unfolding point_due
 returns-in-Some c =
-    let same : length c.in-ok-text.text.now ≡ c.args.rows.now.dims = c.if-text-dims.false ∙ c.dims.ensures in
-    let long : eqb (length c.in-ok-text.text.now) c.args.rows.now.dims ≡ true = eq-eqb _ _ same in
+    let same : length c.in_ok-text.text.now ≡ c.args.rows.now.dims = c.if-text-dims.false ∙ c.dims.ensures in
+    let long : eqb (length c.in_ok-text.text.now) c.args.rows.now.dims ≡ true = eq-eqb _ _ same in
     record {
-      read = rw (c.in-ok-text.ensures, long, ← c.in-Some.ensures);
-      point = ranked_point c.args.rows.now.grades c.in-ok-text.text.now c.args.rows.now.dims c.in-Some.ranks same c.in-Some.ensures;
+      read = rw (c.in_ok-text.ensures, long, ← c.in-Some.ensures);
+      point = ranked_point c.args.rows.now.grades c.in_ok-text.text.now c.args.rows.now.dims c.in-Some.ranks same c.in-Some.ensures;
     }
 
 pub returns-in-None : goal.returns-in-None
 unfolding point_due
 returns-in-None c =
-    let long : eqb (length c.in-ok-text.text.now) c.args.rows.now.dims ≡ true = eq-eqb _ _ (c.if-text-dims.false ∙ c.dims.ensures) in
-    rw c.bad-in-None.ensures record { read = rw (c.in-ok-text.ensures, long, ← c.in-None.ensures); point = tt }
+    let long : eqb (length c.in_ok-text.text.now) c.args.rows.now.dims ≡ true = eq-eqb _ _ (c.if-text-dims.false ∙ c.dims.ensures) in
+    rw c.bad-in-None.ensures record { read = rw (c.in_ok-text.ensures, long, ← c.in-None.ensures); point = tt }

@@ -8,6 +8,6 @@ use Rattle.sheets.proofs.rows.row_lines.Given as goal
 
 abbrev pub invariant-loop-i : goal.invariant-loop-i
 invariant-loop-i l =
-    (more_lines (row_line (listed l.initial.rows.grades) l.initial.rows.dims) (l.lines - l.-i) (rows_of l.rows) (state_of l.scanner)
+    (more_lines (row_line (listed l.initial.rows.grades) l.initial.rows.dims) (l.lines - l._i) (rows_of l.rows) (state_of l.scanner)
     ≡ more_lines (row_line (listed l.initial.rows.grades) l.initial.rows.dims) l.lines (rows_of l.initial.rows) (state_of l.initial.scanner))
     × (l.rows.grades ≡ l.initial.rows.grades) × (l.rows.dims ≡ l.initial.rows.dims)

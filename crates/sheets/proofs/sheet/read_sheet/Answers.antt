@@ -5,13 +5,13 @@ use Rattle.sheets.specs.Sheets.{bodies, meant_by, sheet}
 use Rattle.sheets.proofs.Readings.{reads_on, stops_or, told_or}
 use Rattle.sheets.proofs.sheet.read_sheet.Goals as goal
 
-pub returns-in-err-contents : goal.returns-in-err-contents
+pub returns-in_err-contents : goal.returns-in_err-contents
 unfolding sheet
-returns-in-err-contents c =
-    let p = err_from_is_err_and c.from-residual.result c.from-residual.ensures.1 in
-    rw (p.1, p.2) (stops_or _ _ _ (told_or _ _ c.in-err-contents.ensures.read))
+returns-in_err-contents c =
+    let p = err_from_is_err_and c.from_residual.result c.from_residual.ensures.1 in
+    rw (p.1, p.2) (stops_or _ _ _ (told_or _ _ c.in_err-contents.ensures.read))
 
 pub returns : goal.returns
 unfolding sheet
 returns c =
-    reads_on meant_by (contents (state_of c.args.scanner.now)) (λ told. bodies told.body told.calls) _ _ c.read-bodies.result (state_of c.read-bodies.new.scanner) c.in-ok-contents.ensures.read c.read-bodies.ensures
+    reads_on meant_by (contents (state_of c.args.scanner.now)) (λ told. bodies told.body told.calls) _ _ c.read_bodies.result (state_of c.read_bodies.new.scanner) c.in_ok-contents.ensures.read c.read_bodies.ensures

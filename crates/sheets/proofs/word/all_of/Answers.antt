@@ -10,7 +10,7 @@ returns-then-ne c =
     let text = c.args.text.now in
     let i = c.loop-byte.byte-index in
     let told = told_other _ _ _ c.ne.ensures in
-    let other : same_class (class_of (get_or text i 0)) c.args.class ≡ false = rw (← c.class-of.ensures) (not-true _ (sym told ∙ c.if-ne.true)) in
+    let other : same_class (class_of (get_or text i 0)) c.args.class ≡ false = rw (← c.class_of.ensures) (not-true _ (sym told ∙ c.if-ne.true)) in
     sym (all_stops c.args.class text i (search rules) other) ∙ c.loop-byte.invariant
 
 pub loop-byte-preserved : goal.loop-byte-preserved
@@ -18,7 +18,7 @@ loop-byte-preserved c =
     let text = c.args.text.now in
     let i = c.loop-byte.byte-index in
     let told = told_other _ _ _ c.ne.ensures in
-    let same : same_class (class_of (get_or text i 0)) c.args.class ≡ true = rw (← c.class-of.ensures) (not-false _ (sym told ∙ c.if-ne.false)) in
+    let same : same_class (class_of (get_or text i 0)) c.args.class ≡ true = rw (← c.class_of.ensures) (not-false _ (sym told ∙ c.if-ne.false)) in
     sym (all_goes c.args.class text i (search rules) same) ∙ c.loop-byte.invariant
 
 pub returns : goal.returns

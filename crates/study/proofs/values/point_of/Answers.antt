@@ -6,13 +6,13 @@ use Rattle.study.specs.declared.reply.Refusal.TheVariants.{Value}
 use Rattle.study.proofs.Named.{after, point_all, point_more, rank_none, rank_some}
 use Rattle.study.proofs.values.point_of.Goals as goal
 
-pub returns-in-default : goal.returns-in-default
-returns-in-default g c =
+pub returns-in_default : goal.returns-in_default
+returns-in_default g c =
     let rank = g.C.Chain.order.rank c.args.chain.now in
     let values = c.args.values.now in
     let i = c.loop-i.i in
     let read = drop_more values i c.index-values-i.result c.loop-i-test.true ∙ ap (λ v. v ∷ drop (i + 1) values) (sym c.index-values-i.is) in
-    let none = sym (rank_none rank c.args.sizes.now values i c.index-values-i.result c.loop-i-test.true read (take i c.loop-i.point) c.in-default.ensures) ∙ c.loop-i.invariant.2 in
+    let none = sym (rank_none rank c.args.sizes.now values i c.index-values-i.result c.loop-i-test.true read (take i c.loop-i.point) c.in_default.ensures) ∙ c.loop-i.invariant.2 in
     ap (λ k. Err (Value k)) (add-one i) ∙ ap placed none
 
 pub loop-i-preserved : goal.loop-i-preserved

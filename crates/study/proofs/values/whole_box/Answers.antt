@@ -9,8 +9,8 @@ loop-i-init c = filled_none (λ i. size_of c.args.sizes.now i - 1) 0
 
 pub loop-i-preserved : goal.loop-i-preserved
 loop-i-preserved c =
-    filled_more (λ i. size_of c.args.sizes.now i - 1) 0 c.loop-i.i c.loop-i.roof c.loop-i.invariant c.saturating-sub.result (omega arith)
-    c.saturating-sub.ensures
+    filled_more (λ i. size_of c.args.sizes.now i - 1) 0 c.loop-i.i c.loop-i.roof c.loop-i.invariant c.saturating_sub.result (omega arith)
+    c.saturating_sub.ensures
 
 pub returns : goal.returns
 returns c =

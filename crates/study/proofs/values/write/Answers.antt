@@ -15,9 +15,9 @@ loop-i-preserved g c =
     let i = c.loop-i.i in
     let k = c.args.at + i in
     let cell = c.index-strip-at.result in
-    let v = c.unwrap-or.result in
+    let v = c.unwrap_or.result in
     let next : c.args.at + (i + 1) ≡ k + 1 = omega arith in
-    let value = c.unwrap-or.ensures ∙ ap (λ o. unwrap_or o cell) c.member.ensures in (
+    let value = c.unwrap_or.ensures ∙ ap (λ o. unwrap_or o cell) c.member.ensures in (
       length-set strip k v ∙ c.loop-i.invariant.0,
       ap (λ n. take n (set strip k v) ++ written member (drop (i + 1) ranks) (drop n (set strip k v))) next
           ∙ write_more member ranks strip k i cell v c.loop-i-test.true (omega arith) c.index-strip-at.is value

@@ -8,6 +8,6 @@ pub returns : goal.returns
 returns g c =
     let r = g.M.Map.rules in
     record {
-      study = ap (λ b. record { map = c.args.map; left = c.args.allowance; bounds = b }) (c.whole-box-bounds.ensures ∙ ap whole_box c.sizes.ensures.value);
+      study = ap (λ b. record { map = c.args.map; left = c.args.allowance; bounds = b }) (c.whole_box-bounds.ensures ∙ ap whole_box c.sizes.ensures.value);
       law = law_of_runs g.M.Chain.order r g.met.M.Map.rules_laws c.args.map c.args.allowance;
     }

@@ -16,7 +16,7 @@ returns-in-Ok g c =
     let told = c.in-Ok.ensures in
     record {
       told = put_told g.M.Chain.order g.M.Map.rules s c.args.point c.if-self-eq0.false (Ok c.in-Ok.answer) told.answer;
-      moved = put_moved g.M.Chain.order g.M.Map.rules s c.args.point c.if-self-eq0.false _ refl refl told.leads told.same told.same-order;
+      moved = put_moved g.M.Chain.order g.M.Map.rules s c.args.point c.if-self-eq0.false _ refl refl told.leads told.same told.same_order;
     }
 
 pub returns-in-Err : goal.returns-in-Err
@@ -25,5 +25,5 @@ returns-in-Err g c =
     let told = c.in-Err.ensures in
     record {
       told = put_told g.M.Chain.order g.M.Map.rules s c.args.point c.if-self-eq0.false (Err c.in-Err.fault) told.answer;
-      moved = put_moved g.M.Chain.order g.M.Map.rules s c.args.point c.if-self-eq0.false _ refl refl told.leads told.same told.same-order;
+      moved = put_moved g.M.Chain.order g.M.Map.rules s c.args.point c.if-self-eq0.false _ refl refl told.leads told.same told.same_order;
     }

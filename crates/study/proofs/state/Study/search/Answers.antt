@@ -46,9 +46,9 @@ returns-in-Pair g c =
     let low = c.in-Pair.low in
     let high = c.in-Pair.high in
     let found = ended_pair (due_search r s log).outcome low high c.in-Pair.coordinate sought.ended in
-    let shows = c.show-pair.ensures ∙ ap (λ d. written (o.member t.map) (pair_ranks d low high) strip) sought.same.dims ∙ shown_same o r s strip log _ t c.seek-ended.new.log sought room (pair_ranks (r.dims s.map) low high) in
+    let shows = c.show_pair.ensures ∙ ap (λ d. written (o.member t.map) (pair_ranks d low high) strip) sought.same.dims ∙ shown_same o r s strip log _ t c.seek-ended.new.log sought room (pair_ranks (r.dims s.map) low high) in
     accounted o r g.met.M.Map.rules_laws _
-    (did_search o r s strip log _ t c.seek-ended.new.log sought room (Outcome.pairs low high found.0) n _ c.show-pair.new.strip found.1 spent (ap (λ k. Ok (Pair n k)) found.2) shows)
+    (did_search o r s strip log _ t c.seek-ended.new.log sought room (Outcome.pairs low high found.0) n _ c.show_pair.new.strip found.1 spent (ap (λ k. Ok (Pair n k)) found.2) shows)
 
 pub returns-in-Spent : goal.returns-in-Spent
 returns-in-Spent g c =

@@ -47,7 +47,7 @@ questions-preserved g c =
     let reopened = move_leaves k held (levels_of c.reopen.new.self) (newest log at q y) b c.in-Move.ensures c.reopen.ensures ∙ ap (λ l. opened b (suc k) (drop (suc k) l)) c.levels.invariant.0 in
     let on =
     goes_on g.M.Chain.order r c.args.self.now c.args.log.now ls at s log c.questions.invariant t (omega arith) (omega (arith, c.questions.invariant.whole)) refl refl
-    (subst (λ p. r.puts s.map p c.put.new.self) asked told.leads) told.same told.same-order y (told.answer ∙ ap (r.meaning s.map) asked) next decided in
+    (subst (λ p. r.puts s.map p c.put.new.self) asked told.leads) told.same told.same_order y (told.answer ∙ ap (r.meaning s.map) asked) next decided in
     subst₂ (λ l p. Asking g.M.Chain.order r c.args.self.now c.args.log.now l (at + 1) t (set log at (entry p y))) (sym reopened) (sym asked) on
 
 pub returns-then-self-eq0 : goal.returns-then-self-eq0
@@ -67,7 +67,7 @@ returns-in-Err g c =
     let told = c.in-Err.ensures in
     ends_fault g.M.Chain.order r c.args.self.now c.args.log.now ls c.questions.made s c.questions.log c.questions.invariant
     (record { map = c.put.new.self; left = s.left - 1; bounds = s.bounds }) (omega arith) (omega (arith, c.questions.invariant.whole)) refl refl
-    (subst (λ q. r.puts s.map q c.put.new.self) asked told.leads) told.same told.same-order c.in-Err.fault (told.answer ∙ ap (r.meaning s.map) asked)
+    (subst (λ q. r.puts s.map q c.put.new.self) asked told.leads) told.same told.same_order c.in-Err.fault (told.answer ∙ ap (r.meaning s.map) asked)
 
 pub returns-in-Settled : goal.returns-in-Settled
 returns-in-Settled g c =
@@ -84,7 +84,7 @@ returns-in-Settled g c =
     let decided = judged_decision c.levels.k (levels_of c.levels.levels) ls q y log at Settled c.if-at-log.false c.levels.invariant.0 asked c.levels.invariant.2 c.in-Settled.ensures in
     let end =
     ends_settled g.M.Chain.order r c.args.self.now c.args.log.now ls at s log c.questions.invariant t (omega arith) (omega (arith, c.questions.invariant.whole)) refl refl
-    (subst (λ p. r.puts s.map p c.put.new.self) asked told.leads) told.same told.same-order y (told.answer ∙ ap (r.meaning s.map) asked) decided in
+    (subst (λ p. r.puts s.map p c.put.new.self) asked told.leads) told.same told.same_order y (told.answer ∙ ap (r.meaning s.map) asked) decided in
     subst (λ p. Sought g.M.Chain.order r c.args.self.now c.args.log.now (ended_by (Outcome.settles p)) t (set log at (entry p y))) (sym asked) end
 
 pub returns-in-Pair : goal.returns-in-Pair
@@ -104,5 +104,5 @@ returns-in-Pair g c =
     let decided = judged_decision c.levels.k (levels_of c.levels.levels) ls q y log at (Pair low high) c.if-at-log.false c.levels.invariant.0 asked c.levels.invariant.2 c.in-Pair.ensures in
     let end =
     ends_pair g.M.Chain.order r c.args.self.now c.args.log.now ls at s log c.questions.invariant t (omega arith) (omega (arith, c.questions.invariant.whole)) refl refl
-    (subst (λ p. r.puts s.map p c.put.new.self) asked told.leads) told.same told.same-order y (told.answer ∙ ap (r.meaning s.map) asked) low high c.levels.k decided in
+    (subst (λ p. r.puts s.map p c.put.new.self) asked told.leads) told.same told.same_order y (told.answer ∙ ap (r.meaning s.map) asked) low high c.levels.k decided in
     subst₂ (λ n p. Sought g.M.Chain.order r c.args.self.now c.args.log.now (Ended.Pair low high n) t (set log at (entry p y))) (sym (add-one c.levels.k)) (sym asked) end

@@ -5,9 +5,9 @@ use Rattle.sheets.proofs.LineSteps.{front_is, line_fails, line_goes, line_missin
 use Rattle.sheets.proofs.scanner.state.Scanner.next_line.Goals as goal
 use Rattle.sheets.proofs.scanner.state.Scanner.next_line.Goals.{then-end-rest-via-then-end-rest, then-end-rest-via-else-end-rest+then-not-is-neat}
 
-pub returns-then-is-empty : goal.returns-then-is-empty
+pub returns-then-is_empty : goal.returns-then-is_empty
 unfolding next_line
-returns-then-is-empty c =
+returns-then-is_empty c =
     let rest = c.args.self.now.rest.now in
     ap (line_from rest) (sym (add-one c.args.self.now.line)) ∙ line_missing rest (c.args.self.now.line + 1) (search rules)
 
@@ -15,15 +15,15 @@ pub returns-then-end-rest : goal.returns-then-end-rest
 unfolding next_line
 returns-then-end-rest c =
     let rest = c.args.self.now.rest.now in
-    let end = c.up-to-end.result in
+    let end = c.up_to-end.result in
     let failed : (length rest ≤ end) ⊎ (neat true (take end rest) ≡ false) =
-    elim c.then-end-rest.branch [ then-end-rest-via-then-end-rest w ↦ inl (omega arith) | then-end-rest-via-else-end-rest+then-not-is-neat w ↦ inr (ap (neat true) (sym (front_is rest end)) ∙ sym w.if-not-is-neat.ensures) ] in
-    ap (line_from rest) (sym (add-one c.args.self.now.line)) ∙ line_fails rest end (c.args.self.now.line + 1) (search rules) c.up-to-end.ensures.value failed
+    elim c.then-end-rest.branch [ then-end-rest-via-then-end-rest w ↦ inl (omega arith) | then-end-rest-via-else-end-rest+then-not-is-neat w ↦ inr (ap (neat true) (sym (front_is rest end)) ∙ sym w.if-not-is_neat.ensures) ] in
+    ap (line_from rest) (sym (add-one c.args.self.now.line)) ∙ line_fails rest end (c.args.self.now.line + 1) (search rules) c.up_to-end.ensures.value failed
 
 pub returns : goal.returns
 unfolding next_line
 returns c =
     let rest = c.args.self.now.rest.now in
-    let end = c.up-to-end.result in
+    let end = c.up_to-end.result in
     ap (line_from rest) (sym (add-one c.args.self.now.line))
-    ∙ line_goes rest _ _ end (c.args.self.now.line + 1) c.up-to-end.ensures.value (omega arith) (ap (neat true) (sym (front_is rest end)) ∙ sym c.if-not-is-neat.ensures) (front_is rest end) (take_rest rest (end + 1) ∙ ap (λ k. drop k rest) (add-one end))
+    ∙ line_goes rest _ _ end (c.args.self.now.line + 1) c.up_to-end.ensures.value (omega arith) (ap (neat true) (sym (front_is rest end)) ∙ sym c.if-not-is_neat.ensures) (front_is rest end) (take_rest rest (end + 1) ∙ ap (λ k. drop k rest) (add-one end))
