@@ -1,6 +1,9 @@
 -- A table of classes whose every entry is the class of its place, by one test that is computed.
-use Rattle.std.proofs.Common.{◌≡◌, ℕ, zero, suc, ◌+◌, ◌<◌, Bool, true, false, cond, not, ◌&&◌, List, [], ◌∷◌, length, get_or, sym, refl, ap, ◌∙◌, le_of_suc-le-suc, not-suc-le-zero, add-zero, add-suc, suc-add, zero-add, arith}
+use Rattle.std.proofs.Common.{◌≡◌, ℕ, zero, suc, ◌+◌, ◌<◌, Bool, true, false, cond, not, ◌&&◌, List, [], ◌∷◌, length, get_or, sym, refl, ap, ap₂, ◌==◌, ◌∙◌, le_of_suc-le-suc, not-suc-le-zero, add-zero, add-suc, suc-add, zero-add, arith}
 use Rattle.std.proofs.lemmas.Bool.{and_parts, eq-eqb, eqb-true}
+use denote.Enum.Bare.{sameb}
+use denote.Enum.Declared.{tag_of}
+use Rattle.sheets.specs.contracts.classes.Class.{the_type}
 use Rattle.sheets.specs.Classes.{class_number, class_of, same_class}
 use Rattle.sheets.specs.declared.classes.Class.{Class}
 use Rattle.sheets.specs.declared.classes.Class.TheVariants.{LineEnd, Blank, Digit, Capital, Small, Minus, Other}
@@ -28,13 +31,6 @@ class_back Other = refl
 class_from_same : (a b : Class) → same_class a b ≡ true → a ≡ b
 class_from_same a b t = sym (class_back a) ∙ ap class_at (eqb-true _ _ t) ∙ class_back b
 
-same_from_class : (a b : Class) → a ≡ b → same_class a b ≡ true
-same_from_class a b e = eq-eqb _ _ (ap class_number e)
-
-same_from_other : (a b : Class) (t : Bool) → same_class a b ≡ t → (a ≡ b → ⊥) → same_class a b ≡ false
-same_from_other a b true e ne = absurd (ne (class_from_same a b e))
-same_from_other a b false e ne = e
-
 -- each entry is the class of its place, counted from i
 abbrev pub agrees : ℕ → List Class → Bool
 agrees i [] = true
@@ -50,10 +46,16 @@ agrees_at (x ∷ xs) i t (suc k) h =
 pub table_rule : (xs : List Class) (byte : ℕ) → agrees 0 xs ≡ true → length xs ≡ 256 → byte < 256 → get_or xs byte LineEnd ≡ class_of byte
 table_rule xs byte t long h = agrees_at xs 0 t byte (omega arith) ∙ ap class_of (zero-add byte)
 
-told_if : (a b : Class) (r x : Bool) → cond x (a ≡ b) (a ≡ b → ⊥) → r ≡ not x → r ≡ not (same_class a b)
-told_if a b r true e t = t ∙ ap not (sym (same_from_class a b e))
-told_if a b r false ne t = t ∙ ap not (sym (same_from_other a b _ refl ne))
+-- the tag by which a class is compared is its number
+tag_is : (a : Class) → tag_of the_type a ≡ class_number a
+tag_is LineEnd = refl
+tag_is Blank = refl
+tag_is Digit = refl
+tag_is Capital = refl
+tag_is Small = refl
+tag_is Minus = refl
+tag_is Other = refl
 
 -- what `!=` tells of two classes
-pub told_other : (a b : Class) (r : Bool) → ((x : Bool) × cond x (a ≡ b) (a ≡ b → ⊥) × (r ≡ not x)) → r ≡ not (same_class a b)
-told_other a b r h = told_if a b r h.0 h.1 h.2
+pub told_other : (a b : Class) (r : Bool) → r ≡ not (sameb the_type a b) → r ≡ not (same_class a b)
+told_other a b r h = h ∙ ap not (ap₂ (λ m n. m == n) (tag_is a) (tag_is b))

@@ -21,7 +21,7 @@ returns-in_err-name g c =
 pub returns : goal.returns
 unfolding call_line
 returns g c =
-    let value = g.V-as-Value.reads in
+    let value = g.V.Value.reads in
     let after = state_of c.call_named.new.scanner in
     reads_on asked_of (next_line (state_of c.args.scanner.now)) (λ _. any_name >>= call_named value) _ _ c.call_named.result after c.in_ok-next_line.ensures
     (reads_on asked_of (any_name (state_of c.next_line.new.self)) (call_named value) _ _ c.call_named.result after c.in_ok-name.ensures c.call_named.ensures)

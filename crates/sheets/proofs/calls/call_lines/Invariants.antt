@@ -6,5 +6,5 @@ use Rattle.sheets.proofs.calls.call_lines.Given as goal
 
 abbrev pub invariant-loop-i : goal.invariant-loop-i
 invariant-loop-i g l =
-    more_lines (λ _. call_line g.V-as-Value.reads) (l.lines - l._i) (map asked_of (vec_items l.calls)) (state_of l.scanner)
-    ≡ many_lines (λ _. call_line g.V-as-Value.reads) l.lines (state_of l.initial.scanner)
+    more_lines (λ _. call_line g.V.Value.reads) (l.lines - l._i) (map asked_of (vec_items l.calls)) (state_of l.scanner)
+    ≡ many_lines (λ _. call_line g.V.Value.reads) l.lines (state_of l.initial.scanner)

@@ -5,5 +5,5 @@ use Rattle.sheets.proofs.calls.values.Given as goal
 
 abbrev pub invariant-loop-i : goal.invariant-loop-i
 invariant-loop-i g l =
-    more_values g.V-as-Value.reads (8 - l._i) (vec_items l.values) (state_of l.scanner)
-    ≡ more_values g.V-as-Value.reads 8 [] (state_of l.initial.scanner)
+    more_values g.V.Value.reads (8 - l._i) (vec_items l.values) (state_of l.scanner)
+    ≡ more_values g.V.Value.reads 8 [] (state_of l.initial.scanner)

@@ -9,7 +9,7 @@ loop-digit-preserved c =
     let i = c.loop-digit.digit-index in
     let n = c.loop-digit.number in
     let digit : c.from.result ≡ get_or digits i 0 - 48 = c.from.ensures ∙ c.saturating_sub.ensures in
-    let bound : n * 10 + c.from.result + 23 ≤ 23 * 10 ^ (i + 1) = rw (add-one, pow-suc 10 i) (omega (arith, c.loop-digit.invariant.1, c.type-inv.digits i, digit)) in
+    let bound : n * 10 + c.from.result + 23 ≤ 23 * 10 ^ (i + 1) = rw (add-one, pow-suc 10 i) (omega (arith, c.loop-digit.invariant.1, c.type_inv.digits i, digit)) in
     (ap (λ d. number_after (n * 10 + d) (drop (i + 1) digits)) digit ∙ sym (number_goes n digits i (search rules)) ∙ c.loop-digit.invariant.0, bound)
 
 pub returns : goal.returns

@@ -1,4 +1,4 @@
-use Rattle.std.proofs.Common.{ℕ, List, MutBor}
+use Rattle.std.proofs.Common.{ℕ, List, Bor}
 use Rattle.std.proofs.lemmas.Result.{err_from_is_err_and}
 use Rattle.sheets.specs.Dues.{any_name}
 use Rattle.sheets.specs.Forms.{name_of}
@@ -14,7 +14,7 @@ returns-in_err-word c =
 pub returns-in-Some : goal.returns-in-Some
 unfolding any_name
 returns-in-Some c =
-    let held : MutBor (List ℕ) → List ℕ = λ t. t.now in
+    let held : Bor (List ℕ) → List ℕ = λ t. t.now in
     picked name_of held _ _ _ c.in-Some.text c.in_ok-word.ensures.read c.in-Some.ensures
 
 pub returns-in-None : goal.returns-in-None
