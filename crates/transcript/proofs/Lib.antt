@@ -4,4 +4,5 @@ pub mod Going
 pub mod Making
 pub mod Spoken
 pub mod Studied
+pub mod Terms
 pub mod Twins

@@ -1,7 +1,7 @@
 -- Maps that a caller cannot tell apart: by their members and ranks, their coordinates, and their answers.
-use Rattle.std.proofs.Common.{◌≡◌, [], length, vec_items, sym, refl, ap, ◌∙◌, arith}
+use Rattle.std.proofs.Common.{◌≡◌, [], length, map, vec_items, sym, refl, ap, ◌∙◌, arith}
 use mathlib.Core.Path.{fun_ext}
-use Rattle.std.proofs.lemmas.List.{length-take-le}
+use Rattle.std.proofs.lemmas.List.{length-map, length-take-le}
 use Rattle.chains.specs.GradeOrder.{listed}
 use Rattle.chains.specs.Order.{Order}
 use Rattle.transcript.specs.Ticks.{tick_member, tick_rank}
@@ -9,7 +9,7 @@ use Rattle.chains.specs.declared.grades.letters.Grades.{Grades}
 use Rattle.points.specs.Points.{at_points}
 use Rattle.maps.specs.JobOrder.{job_order}
 use Rattle.sheets.specs.JobsBody.{panel_of, terms_of}
-use Rattle.transcript.specs.Panels.{panel_order, panel_rules}
+use Rattle.transcript.specs.Panels.{longest_terms, panel_order, panel_rules}
 use Rattle.maps.specs.Recall.{memo_rules, recall_or, recalled, stored}
 use Rattle.maps.specs.Replies.{row_meaning, row_sizes}
 use Rattle.maps.specs.Response.{job_rules}
@@ -21,6 +21,7 @@ use Rattle.maps.specs.Through.{through}
 use Rattle.maps.specs.declared.jobs.panel.Jobs.{Jobs}
 use Rattle.maps.specs.declared.memo.store.Memo.{Memo}
 use Rattle.maps.specs.declared.rows.table.Rows.{Rows}
+use Rattle.transcript.proofs.Terms.{longest_of_terms, meaning_of_terms, sizes_of_terms}
 
 pub record Alike {M N V : Type 0} (o : Order M V) (r : Rules M) (m : M) (o' : Order N V) (r' : Rules N) (n : N) : Type 0 where
   pub member : o.member m ≡ o'.member n
@@ -35,13 +36,16 @@ same_alike o r m n same order = record { member = fun_ext order.member; rank = f
 
 -- a jobs map and its panel
 pub panel_alike : (m : Jobs) → Alike job_order job_rules m panel_order panel_rules (panel_of m)
-panel_alike m = record {
-  member = ap (tick_member m.ticks.step) m.sized;
-  rank = ap (tick_rank m.ticks.step) m.sized;
-  dims = m.jobs.ok.0 ∙ sym (terms-length (vec_items m.jobs));
-  sizes = refl;
-  meaning = refl;
-}
+panel_alike m =
+    let jobs = vec_items m.jobs in
+    let size : m.ticks.size ≡ longest_terms (map terms_of jobs) = m.sized ∙ longest_of_terms jobs in
+    record {
+      member = ap (tick_member m.ticks.step) size;
+      rank = ap (tick_rank m.ticks.step) size;
+      dims = m.jobs.ok.0 ∙ sym (length-map jobs terms_of);
+      sizes = sizes_of_terms jobs;
+      meaning = meaning_of_terms jobs;
+    }
 
 -- a rows map and its table
 listed_count : (c : Grades) → c.count ≡ length (listed c)

@@ -8,6 +8,6 @@ pub returns-in-Ok : goal.returns-in-Ok
 returns-in-Ok c =
     let e = c.in-Ok.ensures.means in
     record {
-      exact = made_so c.run-sheet.result (λ text h. h ∙ sym (ap text_of e)) c.run-sheet.ensures.exact;
-      lawful = made_so c.run-sheet.result (λ text h. subst (λ x. FileRun x (string_bytes text)) (sym e) h) c.run-sheet.ensures.lawful;
+      exact = made_so c.run_sheet.result (λ text h. h ∙ sym (ap text_of e)) c.run_sheet.ensures.exact;
+      lawful = made_so c.run_sheet.result (λ text h. subst (λ x. FileRun x (string_bytes text)) (sym e) h) c.run_sheet.ensures.lawful;
     }

@@ -13,14 +13,14 @@ pub returns : goal.returns
 returns g c =
     let o = through (λ n. n.map) g.M.Chain.order in
     let r = memo_rules g.M.Map.rules in
-    let strip = c.deref-mut.ensures.value ∙ c.in-ok-strip.ensures ∙ ap (λ v. replicate 32 v) c.blank.ensures in
-    let log = c.deref-mut-2.ensures.value ∙ c.in-ok-record.ensures in
+    let strip = c.deref_mut.ensures.value ∙ c.in_ok-strip.ensures ∙ ap (λ v. replicate 32 v) c.blank.ensures in
+    let log = c.deref_mut-2.ensures.value ∙ c.in_ok-record.ensures in
     let calls = ap (map (λ call. call_of (asked_of call))) c.deref.ensures.value ∙ sym (map-map call_of asked_of (vec_items c.args.plan.calls)) in
-    made_so c.study-map.result
+    made_so c.study_map.result
     (λ text h. record {
       memo = c.new.result;
       over = c.new.ensures.over;
       empty = c.new.ensures.empty;
       studied = subst₃ (λ s l cs. Studied o r g.V.Printed.bytes g.M.Chain.kind_code c.new.result c.args.plan.allow s l cs (string_bytes text)) strip log calls h;
     })
-    c.study-map.ensures
+    c.study_map.ensures

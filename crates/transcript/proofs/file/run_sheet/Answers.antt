@@ -9,8 +9,8 @@ returns-in-Jobs c =
     let plan = c.in-Jobs.plan in
     let e = ap meant_by c.in-Jobs.is in
     record {
-      exact = made_so c.run-plan.result (λ text p. (jobs_text _ plan.map (planned_of plan) (string_bytes text) e p).exact) c.run-plan.ensures;
-      lawful = made_so c.run-plan.result (λ text p. (jobs_text _ plan.map (planned_of plan) (string_bytes text) e p).lawful) c.run-plan.ensures;
+      exact = made_so c.run_plan.result (λ text p. (jobs_text _ plan.map (planned_of plan) (string_bytes text) e p).exact) c.run_plan.ensures;
+      lawful = made_so c.run_plan.result (λ text p. (jobs_text _ plan.map (planned_of plan) (string_bytes text) e p).lawful) c.run_plan.ensures;
     }
 
 pub returns-in-Rows : goal.returns-in-Rows
@@ -18,6 +18,6 @@ returns-in-Rows c =
     let plan = c.in-Rows.plan in
     let e = ap meant_by c.in-Rows.is in
     record {
-      exact = made_so c.run-plan-in-Rows.result (λ text p. (rows_text _ plan.map (planned_of plan) (string_bytes text) e p).exact) c.run-plan-in-Rows.ensures;
-      lawful = made_so c.run-plan-in-Rows.result (λ text p. (rows_text _ plan.map (planned_of plan) (string_bytes text) e p).lawful) c.run-plan-in-Rows.ensures;
+      exact = made_so c.run_plan-in-Rows.result (λ text p. (rows_text _ plan.map (planned_of plan) (string_bytes text) e p).exact) c.run_plan-in-Rows.ensures;
+      lawful = made_so c.run_plan-in-Rows.result (λ text p. (rows_text _ plan.map (planned_of plan) (string_bytes text) e p).lawful) c.run_plan-in-Rows.ensures;
     }

@@ -7,5 +7,5 @@ pub returns : goal.returns
 unfolding encode
 returns c =
     made_by (string_bytes c.push.new.self) c.push-2.result c.push-2.ensures.bytes
-    (kind_made (string_bytes c.args.text.now) (codes "kind ") (encode c.args.kind) (string_bytes c.push-str.new.self) (string_bytes c.push.new.self) (string_bytes c.push-2.new.self)
-    c.in-ok-push-str.ensures.bytes c.in-ok-push.ensures.bytes)
+    (kind_made (string_bytes c.args.text.now) (codes "kind ") (encode c.args.kind) (string_bytes c.push_str.new.self) (string_bytes c.push.new.self) (string_bytes c.push-2.new.self)
+    c.in_ok-push_str.ensures.bytes c.in_ok-push.ensures.bytes)

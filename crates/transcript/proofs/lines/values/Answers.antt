@@ -8,9 +8,9 @@ pub loop-value-preserved : goal.loop-value-preserved
 unfolding encode
 loop-value-preserved g c =
     let show = g.V.Printed.bytes in
-    let blank : string_bytes c.push.new.self ≡ string_bytes c.loop-value.text ++ 32 ∷ [] = c.in-ok-push.ensures.bytes in
+    let blank : string_bytes c.push.new.self ≡ string_bytes c.loop-value.text ++ 32 ∷ [] = c.in_ok-push.ensures.bytes in
     words_more show c.args.values.now (string_bytes c.loop-value.text) (string_bytes c.push.new.self) (string_bytes c.print.new.text) c.loop-value.value-index c.value-item.result
-    c.loop-value-test.true c.value-item.is blank c.in-ok-print.ensures
+    c.loop-value-test.true c.value-item.is blank c.in_ok-print.ensures
     ∙ c.loop-value.invariant
 
 pub returns : goal.returns

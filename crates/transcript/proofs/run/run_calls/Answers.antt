@@ -10,9 +10,9 @@ loop-call-init g c =
 
 pub loop-call-preserved : goal.loop-call-preserved
 loop-call-preserved g c =
-    let told = c.in-ok-run-call.ensures in
+    let told = c.in_ok-run_call.ensures in
     going_more g.M.Chain.order g.M.Map.rules g.V.Printed.bytes (λ call. call_of (asked_of call)) c.args.calls.now c.args.study.now c.args.strip.now c.args.record.now (string_bytes c.args.text.now)
-    c.loop-call.call-index c.call-item.result c.loop-call.study c.loop-call.strip c.loop-call.«record» (string_bytes c.loop-call.text) told.reply c.run-call.new.study c.run-call.new.strip c.run-call.new.record (string_bytes c.run-call.new.text)
+    c.loop-call.call-index c.call-item.result c.loop-call.study c.loop-call.strip c.loop-call.«record» (string_bytes c.loop-call.text) told.reply c.run_call.new.study c.run_call.new.strip c.run_call.new.record (string_bytes c.run_call.new.text)
     c.loop-call-test.true c.call-item.is told.made told.line c.loop-call.invariant
 
 pub returns : goal.returns
