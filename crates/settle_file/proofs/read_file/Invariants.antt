@@ -1,5 +1,5 @@
 use Rattle.std.proofs.Common.{◌-◌, ◌≤◌, vec_len}
-use Rattle.settle.proofs.read_file.Given as goal
+use Rattle.settle_file.proofs.read_file.Given as goal
 
 -- no more is kept than may be read
 abbrev pub invariant-loop-file : goal.invariant-loop-file

@@ -12,7 +12,7 @@ returns c =
     let first = c.in-Ok.ensures.1 in
     let second = c.in-Ok-new.ensures.1 in
     let panel = c.in-Ok-new-2.ensures.made.1 in
-    let items : vec_items c.in-ok-jobs.jobs ≡ c.in-Ok.first ∷ c.in-Ok-new.second ∷ [] = c.in-ok-jobs.ensures.items in
+    let items : vec_items c.in_ok-jobs.jobs ≡ c.in-Ok.first ∷ c.in-Ok-new.second ∷ [] = c.in_ok-jobs.ensures.items in
     record {
       step = panel.0;
       first = c.in-Ok.first;
