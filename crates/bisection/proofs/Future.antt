@@ -1,7 +1,7 @@
 -- The questions that may still come after the present one.
 use Rattle.std.proofs.Common.{◌≡◌, ℕ, zero, suc, ◌≤◌, ◌⊎◌, List, [], ◌∷◌, inl, inr, arith}
 use Rattle.points.specs.Points.{rank_of, AtMost}
-use Rattle.bisection.specs.Bounds.{middle, Between}
+use Rattle.bisection.specs.Bounds.{Between}
 use Rattle.bisection.specs.Levels.{level_at, opened}
 use Rattle.bisection.specs.declared.bounds.Bounds.{Bounds}
 use Rattle.bisection.specs.declared.level.Level.{Level}

@@ -1,5 +1,5 @@
 -- A value that is given only where a test passes.
-use Rattle.std.specs.Prelude.{◌≡◌, ℕ, Bool, true, false, cond, is_some, Some, None, Option, refl}
+use Rattle.std.specs.Prelude.{◌≡◌, ℕ, Bool, true, false, cond, is_some, Some, None, refl}
 use Rattle.std.proofs.Common.{arith}
 
 -- something is given exactly where the test passes

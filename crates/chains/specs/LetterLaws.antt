@@ -1,14 +1,13 @@
 -- Lists of letters step by step, and the laws of the grade chain.
-use Rattle.std.specs.Prelude.{◌≡◌, ℕ, zero, suc, ◌+◌, ◌^◌, ◌<◌, ◌≤◌, Bool, true, false, cond, not, ◌&&◌, ltb, ◌≢◌, List, [], ◌∷◌, length, drop, is_some, Some, None, Option, ◌==◌, nat_lt, slice_index, refl}
-use Rattle.std.proofs.Common.{sym, ap, ◌∙◌, ⊎_elim, add-zero, add-suc, suc-add, zero-add, add-one, arith}
+use Rattle.std.specs.Prelude.{◌≡◌, ℕ, zero, suc, ◌+◌, ◌<◌, ◌≤◌, Bool, true, false, cond, ◌&&◌, ltb, ◌≢◌, List, [], ◌∷◌, length, drop, is_some, Some, None, Option, ◌==◌, nat_lt, slice_index, refl}
+use Rattle.std.proofs.Common.{sym, ap, ◌∙◌, ⊎_elim, add-zero, zero-add, add-one, arith}
 use Rattle.std.specs.List.{slice_get}
-use Rattle.std.proofs.lemmas.List.{drop_more, drop_all, length-take-le}
+use Rattle.std.proofs.lemmas.List.{drop_more, length-take-le}
 use Rattle.std.proofs.lemmas.Option.{slice_get-get_or, slice_get_past}
 use Rattle.std.proofs.lemmas.Bool.{eq-eqb, ne_eqb, eqb-true, lt-ltb, le-ltb, ltb-true, le-leb, cond-true, cond-false, and_parts, and_left, not-true, both_ways, cases_lt}
 use Rattle.chains.specs.Order.{OrderLaws}
 use Rattle.chains.specs.GradeOrder.{grade_order, grades_fault, listed}
 use Rattle.chains.specs.Letters.{place_from, place_of, capitals, different}
-use Rattle.chains.specs.declared.grades.letters.Grades.{Grades}
 
 -- the letter stands at i, so the search for it ends there
 pub place_here : (xs : List ℕ) (i v : ℕ) → i < length xs → slice_index xs i ≡ v → place_from i (drop i xs) v ≡ Some i

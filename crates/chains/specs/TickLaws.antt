@@ -1,8 +1,8 @@
 -- The tick chain keeps the laws of a chain.
-use Rattle.std.specs.Prelude.{◌≡◌, ℕ, ◌*◌, ◌/◌, ◌%◌, ◌^◌, ◌<◌, ◌≤◌, true, ltb, Some, ◌==◌, nat_lt, refl}
-use Rattle.std.proofs.Common.{sym, ap, ◌∙◌, mul-div_cancel, div-add-mod', arith}
+use Rattle.std.specs.Prelude.{◌≡◌, ℕ, ◌*◌, ◌/◌, ◌%◌, true, ltb, Some, ◌==◌, nat_lt}
+use Rattle.std.proofs.Common.{ap, ◌∙◌, mul-div_cancel, div-add-mod', arith}
 use Rattle.std.proofs.Math.Nat.{mul-mod_left}
-use Rattle.std.proofs.lemmas.Bool.{and_parts, and_from, eqb-true, eq-eqb, ltb-true, cond-true}
+use Rattle.std.proofs.lemmas.Bool.{and_parts, and_from, eqb-true, eq-eqb, cond-true}
 use Rattle.chains.specs.Order.{OrderLaws}
 use Rattle.chains.specs.TickOrder.{tick_order}
 use Rattle.chains.specs.declared.ticks.steps.Ticks.{Ticks}

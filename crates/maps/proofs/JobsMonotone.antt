@@ -1,13 +1,12 @@
 -- Every jobs map is monotone: a later response is never answered by an earlier one.
-use Rattle.std.proofs.Common.{◌≡◌, ℕ, zero, suc, ◌+◌, ◌*◌, ◌≤◌, min, max, Bool, true, false, cond, eqb, List, [], ◌∷◌, length, take, drop, Some, None, Ok, Option, refl, zero-le, le_refl, mul-le-mul_right, arith}
+use Rattle.std.proofs.Common.{◌≡◌, ℕ, suc, ◌+◌, ◌≤◌, Bool, true, false, cond, eqb, List, [], ◌∷◌, length, take, drop, Some, None, Ok, Option, zero-le, mul-le-mul_right, arith}
 use Rattle.std.specs.List.{slice_get}
 use Rattle.std.proofs.lemmas.List.{get_or-drop, length-drop}
 use Rattle.points.specs.Points.{AtMost, Monotone, eight, rank_of}
-use Rattle.points.specs.declared.Fault.{Fault}
 use Rattle.points.proofs.Eight.{eight_at_most}
 use Rattle.points.proofs.Guarded.{answered}
 use Rattle.points.proofs.Tested.{point_eight_lem}
-use Rattle.maps.specs.Response.{blocking, holdup, job_meaning, job_sizes, of_job, preemption, releases, response, waits}
+use Rattle.maps.specs.Response.{blocking, holdup, job_meaning, job_sizes, of_job, preemption, response, waits}
 use Rattle.maps.specs.declared.jobs.job.Job.{Job}
 use Rattle.maps.specs.declared.jobs.job.Lock.{Lock}
 use Rattle.maps.specs.declared.jobs.job.Lock.TheVariants.{Free, Inherit, Plain}

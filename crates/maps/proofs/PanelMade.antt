@@ -1,5 +1,5 @@
 -- A panel is refused as its step and its count are.
-use Rattle.std.proofs.Common.{◌≡◌, ℕ, ◌≤◌, Bool, true, false, cond, not, ◌&&◌, leb, Some, None, sym, refl, ap, ◌∙◌, arith}
+use Rattle.std.proofs.Common.{◌≡◌, ℕ, ◌≤◌, Bool, true, false, cond, not, Some, None, refl, ap, arith}
 use Rattle.std.proofs.lemmas.Bool.{le-leb}
 use Rattle.chains.specs.TickOrder.{ticks_fault, within}
 use Rattle.chains.specs.declared.ticks.TicksFault.{TicksFault}

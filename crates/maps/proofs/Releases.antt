@@ -1,5 +1,5 @@
 -- Releases within a span: no more than its ticks, and no fewer in a longer span.
-use Rattle.std.proofs.Common.{◌≡◌, ℕ, ◌+◌, ◌*◌, ◌/◌, ◌%◌, ◌<◌, ◌≤◌, min, ◌⊎◌, inl, inr, mul-le-mul_right, mod-lt, suc-mul, mul-le-mul_left, div-add-mod', arith}
+use Rattle.std.proofs.Common.{◌≡◌, ℕ, ◌+◌, ◌*◌, ◌/◌, ◌%◌, ◌<◌, ◌≤◌, ◌⊎◌, inl, inr, mul-le-mul_right, mod-lt, suc-mul, mul-le-mul_left, div-add-mod', arith}
 use Rattle.std.proofs.lemmas.Nat.{mul-le}
 use Rattle.std.proofs.lemmas.Bool.{cases_lt}
 use Rattle.maps.specs.Response.{releases}

@@ -1,11 +1,11 @@
 -- A look-up by the index of a reply table finds what the list of its rows lists.
-use Rattle.std.proofs.Common.{◌≡◌, ℕ, zero, suc, ◌+◌, ◌<◌, ◌≤◌, Bool, true, false, cond, ◌&&◌, ◌⊎◌, List, [], ◌∷◌, ◌++◌, length, get_or, set, Some, None, Option, sym, refl, ap, ◌∙◌, inl, inr, ⊎_elim, arith}
+use Rattle.std.proofs.Common.{◌≡◌, ℕ, zero, suc, ◌<◌, ◌≤◌, Bool, true, false, List, [], ◌∷◌, length, get_or, Some, None, Option, sym, refl, ap, ◌∙◌, arith}
 use Rattle.std.proofs.lemmas.List.{get_or_read_under}
-use Rattle.std.proofs.lemmas.Bool.{and_parts, cases_Bool, both_ways}
+use Rattle.std.proofs.lemmas.Bool.{and_parts}
 use Rattle.points.specs.Points.{is_point, same_ranks}
 use Rattle.points.specs.declared.Entry.{Entry}
 use Rattle.points.proofs.Same.{same_decides}
-use Rattle.maps.specs.Indexed.{Apart, Listed, Placed, all_points, slot_at}
+use Rattle.maps.specs.Indexed.{Apart, Listed, Placed, all_points}
 use Rattle.maps.specs.Replies.{listed_answer, row_sizes, slot_of}
 use Rattle.maps.proofs.RowSlots.{slot_once, wider}
 

@@ -1,12 +1,11 @@
 -- One more row keeps the index of a reply table right.
-use Rattle.std.proofs.Common.{◌≡◌, ℕ, ◌+◌, ◌<◌, ◌≤◌, true, ◌&&◌, ◌⊎◌, List, [], ◌∷◌, ◌++◌, length, get_or, set, replicate, Some, None, Option, sym, refl, ap, ◌∙◌, inl, inr, arith}
+use Rattle.std.proofs.Common.{◌≡◌, ℕ, ◌<◌, ◌≤◌, true, ◌⊎◌, List, [], ◌∷◌, ◌++◌, length, get_or, set, replicate, Some, None, Option, sym, ap, ◌∙◌, inl, inr, arith}
 use Rattle.std.proofs.lemmas.List.{get_or_append_left, get_or_past, get_or_push, get_or-replicate, get_or-set_other, get_or-set_same, length_push, length-replicate}
 use Rattle.std.proofs.lemmas.Bool.{and_from, and_parts, cases_eq, cases_lt}
 use Rattle.points.specs.Points.{is_point}
 use Rattle.points.specs.declared.Entry.{Entry}
 use Rattle.maps.specs.Indexed.{Apart, Listed, Placed, all_points, slot_at}
 use Rattle.maps.specs.Replies.{slot_of}
-use Rattle.maps.proofs.RowLookup.{row_at}
 
 abbrev nothing : Option ℕ
 nothing = None

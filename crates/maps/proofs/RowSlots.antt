@@ -1,8 +1,8 @@
 -- Each point of a reply table has a place of its own.
-use Rattle.std.proofs.Common.{◌≡◌, ℕ, ◌<◌, ◌≤◌, Bool, true, false, cond, ltb, List, length, arith}
+use Rattle.std.proofs.Common.{◌≡◌, ℕ, ◌<◌, ◌≤◌, true, List, length, arith}
 use Rattle.std.proofs.lemmas.List.{ext_get_or}
 use Rattle.std.proofs.lemmas.Bool.Decides.{nat_tests}
-use Rattle.points.specs.Points.{is_point, rank_of, size_of}
+use Rattle.points.specs.Points.{is_point, rank_of}
 use Rattle.points.proofs.Eight.{by_coordinate, eight_at}
 use Rattle.points.proofs.Tested.{point_eight_lem, point_from, point_within}
 use Rattle.maps.specs.Replies.{row_size, row_sizes, slot_of}

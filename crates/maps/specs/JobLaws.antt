@@ -1,6 +1,6 @@
 -- The jobs map keeps the laws of a map.
-use Rattle.std.specs.Prelude.{◌≡◌, ℕ, zero, suc, ◌+◌, ◌<◌, ◌≤◌, min, true, false, List, [], ◌∷◌, length, Some, None, Ok, Err, vec_items, vec_len, Option, refl}
-use Rattle.std.proofs.Common.{sym, ap, ◌∙◌, arith}
+use Rattle.std.specs.Prelude.{◌≡◌, ℕ, zero, suc, ◌+◌, ◌<◌, ◌≤◌, min, true, List, [], ◌∷◌, length, Some, None, Ok, Err, vec_items, Option}
+use Rattle.std.proofs.Common.{ap, ◌∙◌, arith}
 use Rattle.std.specs.List.{slice_get}
 use Rattle.std.proofs.lemmas.Option.{slice_get_past}
 use Rattle.points.specs.Points.{eight, is_point, size_of}
@@ -11,7 +11,6 @@ use Rattle.maps.specs.JobRanges.{longest}
 use Rattle.maps.specs.Response.{job_meaning, job_rules, job_size, job_sizes, of_job, response}
 use Rattle.maps.specs.Rules.{RulesLaws}
 use Rattle.maps.specs.declared.jobs.job.Job.{Job}
-use Rattle.maps.specs.declared.jobs.panel.Jobs.{Jobs}
 
 -- an answer is below the size, whatever the time that it caps
 capped : (time : Job → ℕ) (o : Option Job) → of_job (λ job. min (job.limit + 1) (time job)) 0 o < of_job (λ job. job.limit + 2) 1 o

@@ -1,5 +1,5 @@
 -- What every layer does: it passes a fault on, one deeper.
-use Rattle.std.specs.Prelude.{ℕ, ◌+◌, min, Ok, Err, Result}
+use Rattle.std.specs.Prelude.{◌+◌, min, Ok, Err, Result}
 use Rattle.points.specs.declared.Fault.{Fault}
 
 -- the depth stops at 255

@@ -1,9 +1,9 @@
 -- What a memo recalls, and what it recalls after one more answer was stored.
-use Rattle.std.specs.Prelude.{◌≡◌, ℕ, ◌+◌, ◌<◌, ◌≤◌, Bool, true, false, cond, List, [], ◌∷◌, ◌++◌, length, drop, Some, None, Ok, Err, Option, Result, slice_index_or, refl}
+use Rattle.std.specs.Prelude.{◌≡◌, ℕ, ◌+◌, ◌<◌, Bool, true, false, cond, List, [], ◌∷◌, ◌++◌, length, drop, Some, None, Ok, Option, Result, slice_index_or, refl}
 use Rattle.std.proofs.Common.{sym, ap, ◌∙◌, arith}
 use Rattle.std.proofs.lemmas.List.{drop_more}
 use Rattle.std.proofs.lemmas.Bool.{and_parts, cond-true, cond-false}
-use Rattle.points.specs.Points.{is_point, same_ranks}
+use Rattle.points.specs.Points.{is_point}
 use Rattle.points.specs.declared.Entry.{Entry}
 use Rattle.points.specs.declared.Fault.{Fault}
 use Rattle.points.proofs.Same.{same_decides}

@@ -1,6 +1,6 @@
 -- Memo: up to 64 questions are kept with their answers, so that each is put below but once.
 use Rattle.std.specs.Prelude.{◌≡◌, ℕ, Bool, true, false, cond, not, ◌&&◌, List, [], ◌∷◌, ◌++◌, length, take, is_some, Some, None, Ok, Err, Option, Result, nat_lt}
-use Rattle.points.specs.Points.{Meaning, at_points, is_point, same_ranks}
+use Rattle.points.specs.Points.{at_points, is_point, same_ranks}
 use Rattle.points.specs.declared.Entry.{Entry}
 use Rattle.points.specs.declared.Fault.{Fault}
 use Rattle.maps.specs.Layers.{passed}

@@ -1,6 +1,6 @@
 -- Reply tables: which rows list which answers.
-use Rattle.std.specs.Prelude.{◌≡◌, ℕ, ◌+◌, ◌*◌, Bool, true, false, cond, not, ◌&&◌, List, [], ◌∷◌, is_some, Some, None, Ok, Err, Option, Result, nat_lt}
-use Rattle.points.specs.Points.{Meaning, at_points, eight, is_point, rank_of, same_ranks}
+use Rattle.std.specs.Prelude.{ℕ, ◌+◌, ◌*◌, cond, List, [], ◌∷◌, Some, None, Ok, Err, Option, Result, nat_lt}
+use Rattle.points.specs.Points.{Meaning, at_points, eight, rank_of, same_ranks}
 use Rattle.points.specs.declared.Entry.{Entry}
 use Rattle.points.specs.declared.Fault.{Fault}
 

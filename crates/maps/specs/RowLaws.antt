@@ -1,5 +1,5 @@
 -- The rows map keeps the laws of a map.
-use Rattle.std.specs.Prelude.{◌≡◌, ℕ, ◌<◌, ◌≤◌, Bool, true, false, cond, ltb, List, [], ◌∷◌, Some, None, Ok, Err, Option, refl}
+use Rattle.std.specs.Prelude.{◌≡◌, ℕ, ◌<◌, ◌≤◌, Bool, true, false, cond, List, [], ◌∷◌, Some, None, Ok, Err, Option}
 use Rattle.std.proofs.Common.{sym, ap, ◌∙◌, arith}
 use Rattle.std.proofs.lemmas.Bool.{and_parts, cond-true, cond-false, le-ltb, lt-ltb}
 use Rattle.std.proofs.lemmas.Bool.Decides.{nat_tests}
@@ -9,7 +9,7 @@ use Rattle.points.specs.declared.Fault.{Fault}
 use Rattle.points.proofs.Eight.{eight_at, eight_length}
 use Rattle.points.proofs.Guarded.{answered, faulted, no_point}
 use Rattle.maps.specs.Indexed.{all_points}
-use Rattle.maps.specs.Replies.{answer_or, listed_answer, row_meaning, row_size, row_sizes}
+use Rattle.maps.specs.Replies.{answer_or, listed_answer, row_size, row_sizes}
 use Rattle.maps.specs.RowsMade.{row_rules, rows_of, sizes_of}
 use Rattle.maps.specs.Rules.{RulesLaws}
 

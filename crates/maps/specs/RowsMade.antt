@@ -1,5 +1,5 @@
 -- How a reply table is made, row by row, and what it means as a map.
-use Rattle.std.specs.Prelude.{◌≡◌, ℕ, ◌≤◌, true, false, cond, not, List, [], ◌∷◌, ◌++◌, is_some, Some, None, Ok, Err, vec_items, Option, Result}
+use Rattle.std.specs.Prelude.{◌≡◌, ℕ, true, false, cond, not, List, [], ◌∷◌, ◌++◌, is_some, Some, None, Ok, Err, vec_items, Option, Result}
 use Rattle.chains.specs.Order.{Order}
 use Rattle.chains.specs.GradeOrder.{grade_order}
 use Rattle.chains.specs.TickOrder.{within}

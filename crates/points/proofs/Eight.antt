@@ -3,7 +3,7 @@ use Rattle.std.proofs.Common.{◌≡◌, ℕ, zero, suc, ◌<◌, ◌≤◌, tru
 use Rattle.std.proofs.lemmas.List.FromFn.{fill_by_all, get_or-map-range_with_len, length-map-range_with_len}
 use Rattle.std.proofs.lemmas.List.{get_or_past}
 use Rattle.std.proofs.lemmas.Bool.{cases_lt}
-use Rattle.points.specs.Points.{AtMost, eight, is_point, rank_of, size_of}
+use Rattle.points.specs.Points.{AtMost, eight, is_point, rank_of}
 use Rattle.points.proofs.Tested.{point_from}
 
 pub eight_length : (f : ℕ → ℕ) → length (eight f) ≡ 8

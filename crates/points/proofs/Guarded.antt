@@ -1,5 +1,5 @@
 -- A meaning that answers at points alone.
-use Rattle.std.proofs.Common.{◌≡◌, ℕ, Bool, true, false, cond, List, Ok, Err, Result, refl, arith}
+use Rattle.std.proofs.Common.{◌≡◌, ℕ, Bool, true, false, cond, List, Ok, Err, refl, arith}
 use Rattle.std.proofs.lemmas.Bool.{cond-true, cond-false}
 use Rattle.points.specs.Points.{Meaning, at_points, is_point, outside}
 use Rattle.points.specs.declared.Fault.{Fault}

@@ -13,7 +13,7 @@ use Rattle.sheets.specs.JobsBody.{Panel, Terms, job_line, jobs_body, lock_due, l
 use Rattle.sheets.specs.Lines.{file_ends, next_line}
 use Rattle.sheets.specs.LinesTold.{ToldWithin, lines_in}
 use Rattle.sheets.specs.Many.{many_lines}
-use Rattle.sheets.specs.Reading.{Reader, State, Told, ◌>>=◌, ◌>>◌, give, refuse}
+use Rattle.sheets.specs.Reading.{Reader, State, Told, ◌>>=◌, give, refuse}
 use Rattle.sheets.specs.RowsBody.{Table, grades_due, grades_line, if_listed, new_point, point_due, ranks_of, row_line, rows_body}
 use Rattle.sheets.specs.Sheets.{Meant, Parses, bodies, jobs_sheet, on_jobs, on_rows, read_file, rows_sheet, sheet, sized, value_of}
 use Rattle.sheets.specs.declared.contents.Body.{Body}

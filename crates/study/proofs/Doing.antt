@@ -1,10 +1,9 @@
 -- How the parts of a call make up what its definition says.
-use Rattle.std.proofs.Common.{◌≡◌, ℕ, zero, suc, ◌+◌, Bool, true, false, cond, eqb, List, [], ◌∷◌, ◌++◌, length, take, Ok, Err, Option, Result, unwrap_or, sym, refl, ap, ◌∙◌, subst, arith}
+use Rattle.std.proofs.Common.{◌≡◌, ℕ, ◌+◌, Bool, true, false, cond, eqb, List, [], ◌∷◌, length, take, Ok, Err, Option, Result, unwrap_or, sym, refl, ap, ◌∙◌, subst, arith}
 use Rattle.chains.specs.Order.{Order}
 use Rattle.points.specs.declared.Entry.{Entry}
 use Rattle.points.specs.declared.Fault.{Fault}
 use Rattle.maps.specs.Rules.{Rules, SameOrder, SameRules}
-use Rattle.bisection.specs.declared.bounds.Bounds.{Bounds}
 use Rattle.study.specs.Calls.{Call, Deed, answer_to, answered, deed, or_faulted, put_now, refused_after, with_answer, with_point, with_reply}
 use Rattle.study.specs.History.{Did, Leads, event}
 use Rattle.study.specs.History.Leads.{stays}

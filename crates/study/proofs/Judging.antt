@@ -1,5 +1,5 @@
 -- The newest entry is judged level by level: what a level's verdict decides.
-use Rattle.std.proofs.Common.{◌≡◌, ℕ, suc, ◌<◌, List, [], length, get_or, drop, set, sym, ap, ◌∙◌, subst, ap₂}
+use Rattle.std.proofs.Common.{◌≡◌, ℕ, suc, ◌<◌, List, [], length, get_or, drop, set, sym, ap, ◌∙◌, ap₂}
 use Rattle.std.proofs.lemmas.List.{get_or-set_same}
 use Rattle.points.specs.declared.Entry.{Entry}
 use Rattle.bisection.specs.Judge.{carried, decide, decision, verdict}

@@ -1,16 +1,16 @@
 -- The law of studies, over every history.
-use Rattle.std.proofs.Common.{◌≡◌, ℕ, ◌+◌, List, [], ◌∷◌, ◌++◌, length, sym, refl, ap, ◌∙◌, subst, arith}
+use Rattle.std.proofs.Common.{◌≡◌, ℕ, ◌+◌, List, [], ◌∷◌, length, sym, ap, ◌∙◌, subst, arith}
 use Rattle.chains.specs.Order.{Order}
 use Rattle.points.specs.Points.{AtMost}
 use Rattle.points.specs.declared.Entry.{Entry}
 use Rattle.maps.specs.Rules.{Rules, RulesLaws}
 use Rattle.bisection.specs.Sound.{Sound}
 use Rattle.bisection.specs.declared.bounds.Bounds.{Bounds}
-use Rattle.study.specs.Calls.{Call, Deed, deed, searched_box}
+use Rattle.study.specs.Calls.{Call, deed}
 use Rattle.study.specs.Calls.Call.{ask, raise, lower, search}
 use Rattle.study.specs.History.{Did, Event, Run, due, entries_of, made, spent_by}
 use Rattle.study.specs.History.Run.{none, next}
-use Rattle.study.specs.Law.{Accounted, AllLawful, KeepsLaw, LawOfRuns, Lawful, Searched}
+use Rattle.study.specs.Law.{Accounted, AllLawful, KeepsLaw, LawOfRuns, Lawful}
 use Rattle.study.specs.Replies.{reported}
 use Rattle.study.specs.declared.state.Study.{Study}
 use Rattle.study.proofs.SearchLaw.{FootingPut, search_law}

@@ -1,9 +1,9 @@
 -- What is learnt where no coordinate is above, and none outside.
-use Rattle.std.proofs.Common.{◌≡◌, ℕ, zero, suc, ◌+◌, ◌<◌, ◌≤◌, Bool, true, false, cond, ◌||◌, ltb, ◌⊎◌, List, [], ◌∷◌, length, Some, None, Option, sym, refl, ap, ◌∙◌, inl, inr, zero-le, arith}
+use Rattle.std.proofs.Common.{◌≡◌, ℕ, zero, suc, ◌+◌, ◌<◌, ◌≤◌, Bool, true, false, cond, ltb, ◌⊎◌, List, [], ◌∷◌, length, Some, None, Option, sym, refl, ap, ◌∙◌, inl, inr, zero-le, arith}
 use Rattle.std.proofs.lemmas.List.{get_or_past}
 use Rattle.std.proofs.lemmas.Bool.{cases_lt, ltb-false, or_parts}
-use Rattle.points.specs.Points.{AtMost, first_above, first_above_from, is_point, rank_of, size_of}
-use Rattle.points.proofs.Tested.{point_eight_lem, point_from, point_within}
+use Rattle.points.specs.Points.{AtMost, first_above, first_above_from, is_point, rank_of}
+use Rattle.points.proofs.Tested.{point_from, point_within}
 use Rattle.bisection.specs.Bounds.{Between}
 use Rattle.bisection.specs.declared.bounds.Bounds.{Bounds}
 use Rattle.study.specs.Values.{first_from, first_outside, outside_at}

@@ -1,8 +1,8 @@
 -- What is promised of a search follows from the theorems of the nested bisection.
-use Rattle.std.proofs.Common.{◌≡◌, ℕ, zero, suc, ◌-◌, ◌*◌, ◌<◌, ◌≤◌, Bool, true, false, cond, ltb, ◌⊎◌, List, [], ◌∷◌, ◌++◌, length, take, Some, None, Ok, Err, Option, sym, refl, ap, ◌∙◌, subst, inl, inr, arith}
+use Rattle.std.proofs.Common.{◌≡◌, ℕ, suc, ◌-◌, ◌*◌, ◌<◌, ◌≤◌, Bool, true, false, cond, ltb, ◌⊎◌, List, [], ◌∷◌, ◌++◌, length, Some, None, Ok, Err, Option, sym, refl, ap, ◌∙◌, subst, inl, inr, arith}
 use Rattle.std.proofs.lemmas.Bool.{ltb-true}
 use Rattle.chains.specs.Order.{Order}
-use Rattle.points.specs.Points.{Meaning, Monotone, rank_of}
+use Rattle.points.specs.Points.{Meaning, rank_of}
 use Rattle.points.specs.declared.Entry.{Entry}
 use Rattle.points.specs.declared.Fault.{Fault}
 use Rattle.maps.specs.Rules.{Rules}
@@ -12,9 +12,9 @@ use Rattle.bisection.specs.Promises.{WasPut}
 use Rattle.bisection.specs.Run.{Outcome, Ran, count, questions}
 use Rattle.bisection.specs.Sound.{Sound}
 use Rattle.bisection.proofs.Promised.{enough_suffices, monotone_has_no_pair_lem, no_question_twice_lem, pair_is_contradiction, questions_are_few, settled_is_fixed_lem}
-use Rattle.study.specs.Calls.{Deed, found_reply, found_strip, left_by, pair_ranks, refused_after, searched_box, strip_with}
+use Rattle.study.specs.Calls.{Deed, found_reply, found_strip, left_by, refused_after, searched_box}
 use Rattle.study.specs.History.{Did, Event, due, entries_of}
-use Rattle.study.specs.Law.{FixedPoint, Searched, Shows, TruePair}
+use Rattle.study.specs.Law.{Searched}
 use Rattle.study.specs.Seek.{due_search}
 use Rattle.study.specs.declared.reply.Refusal.TheVariants.{Strip, Faulted}
 use Rattle.study.specs.declared.reply.Report.{Report}

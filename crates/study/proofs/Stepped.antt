@@ -1,18 +1,18 @@
 -- What a call does to a sound box, whatever it is.
-use Rattle.std.proofs.Common.{◌≡◌, ℕ, zero, suc, ◌+◌, ◌-◌, ◌*◌, ◌<◌, ◌≤◌, Bool, true, false, cond, ltb, ◌⊎◌, List, [], ◌∷◌, ◌++◌, length, get_or, replicate, Some, None, Ok, Err, Option, sym, refl, ap, ◌∙◌, subst, inl, inr, zero-le, le_refl, arith}
+use Rattle.std.proofs.Common.{◌≡◌, ℕ, zero, suc, ◌-◌, ◌*◌, Bool, true, false, cond, ltb, List, [], ◌∷◌, ◌++◌, length, get_or, replicate, Some, None, Ok, Option, sym, refl, subst, inl, le_refl, arith}
 use mathlib.Core.Path.{subst₃, fun_ext}
-use Rattle.std.proofs.lemmas.List.{length-append, length-map, length-replicate}
+use Rattle.std.proofs.lemmas.List.{length-replicate}
 use Rattle.chains.specs.Order.{Order}
 use Rattle.points.specs.Points.{AtMost, Meaning, eight, is_point, rank_of, size_of}
 use Rattle.points.specs.declared.Entry.{Entry}
 use Rattle.points.proofs.Eight.{eight_at, eight_length}
-use Rattle.points.proofs.Tested.{point_eight_lem, point_from}
+use Rattle.points.proofs.Tested.{point_from}
 use Rattle.maps.specs.Rules.{Rules, RulesLaws, SameRules}
-use Rattle.bisection.specs.Run.{Outcome, Ran, count}
+use Rattle.bisection.specs.Run.{Outcome, count}
 use Rattle.bisection.specs.Sound.{Sound}
 use Rattle.bisection.specs.declared.bounds.Bounds.{Bounds}
-use Rattle.study.specs.Calls.{Deed, answered, floor_at, found_reply, left_by, refused_after, roof_at, searched_box}
-use Rattle.study.specs.History.{made, whole_box}
+use Rattle.study.specs.Calls.{Deed, found_reply, left_by, refused_after, searched_box}
+use Rattle.study.specs.History.{whole_box}
 use Rattle.study.specs.Replies.{reported}
 use Rattle.study.specs.Seek.{due_search}
 use Rattle.study.specs.declared.reply.Refusal.TheVariants.{Strip}

@@ -1,5 +1,5 @@
 -- The ways in which asking, raising and lowering can go.
-use Rattle.std.proofs.Common.{◌≡◌, ℕ, zero, suc, ◌+◌, ◌-◌, ◌≤◌, Bool, true, false, cond, eqb, ltb, List, [], ◌∷◌, ◌++◌, length, replicate, Some, None, Ok, Err, Option, Result, sym, refl, ap, ◌∙◌, subst, arith}
+use Rattle.std.proofs.Common.{◌≡◌, ℕ, zero, suc, ◌-◌, ◌≤◌, Bool, true, false, cond, eqb, ltb, List, [], ◌∷◌, length, replicate, Some, None, Ok, Err, Option, Result, sym, refl, ap, ◌∙◌, subst, arith}
 use Rattle.std.proofs.lemmas.List.{length-append, length-replicate}
 use Rattle.std.proofs.lemmas.Bool.{eqb-true}
 use Rattle.chains.specs.Order.{Order}
@@ -11,11 +11,11 @@ use Rattle.maps.specs.Rules.{Rules, RulesLaws}
 use Rattle.bisection.specs.Bounds.{Between}
 use Rattle.bisection.specs.Sound.{Sound}
 use Rattle.bisection.specs.declared.bounds.Bounds.{Bounds}
-use Rattle.study.specs.Calls.{Deed, answer_to, answered, asked, floor_at, inside, lowered, moves, or_faulted, placed, point_in_box, point_named, put_now, raised, refused_after, roof_at, unless_outside, with_answer, with_point, with_reply}
+use Rattle.study.specs.Calls.{Deed, answered, asked, floor_at, inside, lowered, moves, or_faulted, placed, point_in_box, point_named, raised, refused_after, roof_at, unless_outside, with_answer, with_point}
 use Rattle.study.specs.Replies.{Reply, details_of, reported}
 use Rattle.study.specs.Values.{before, first_outside, point_of, ranked, ranks_from, used}
 use Rattle.study.specs.declared.reply.Refusal.{Refusal}
-use Rattle.study.specs.declared.reply.Refusal.TheVariants.{Strip, Values, Value, Spent, Faulted, Outside, Side}
+use Rattle.study.specs.declared.reply.Refusal.TheVariants.{Strip, Values, Spent, Faulted, Side}
 use Rattle.study.specs.declared.reply.Report.TheVariants.{Answered}
 use Rattle.study.specs.declared.state.Study.{Study}
 use Rattle.study.proofs.Order.{at_most_from, between_from}

@@ -1,5 +1,5 @@
 -- What the inner search leaves, from any state of a study: the run of the nested bisection, and nothing else.
-use Rattle.std.specs.Prelude.{◌≡◌, ℕ, suc, ◌+◌, List, ◌++◌, length, drop}
+use Rattle.std.specs.Prelude.{◌≡◌, suc, ◌+◌, List, ◌++◌, length, drop}
 use Rattle.chains.specs.Order.{Order}
 use Rattle.points.specs.declared.Entry.{Entry}
 use Rattle.maps.specs.Rules.{Rules, SameOrder, SameRules}

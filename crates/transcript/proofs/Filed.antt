@@ -18,7 +18,7 @@ use Rattle.maps.specs.declared.rows.table.Rows.{Rows}
 use Rattle.transcript.proofs.Twins.{Alike, memo_alike, panel_alike, table_alike}
 use Rattle.sheets.specs.CallsBody.{Planned}
 use Rattle.sheets.specs.Sheets.{Meant, on_jobs, on_rows}
-use Rattle.study.specs.Calls.{Call, Deed}
+use Rattle.study.specs.Calls.{Call}
 use Rattle.study.specs.History.{whole_box}
 use Rattle.transcript.proofs.Alike.{deed_alike}
 use Rattle.transcript.specs.Lawfully.{PlanRun, SheetRun}

@@ -6,7 +6,7 @@ use Rattle.points.specs.declared.Entry.{Entry}
 use Rattle.maps.specs.Rules.{Rules, SameOrder, SameRules}
 use Rattle.transcript.proofs.Twins.{same_alike}
 use Rattle.bisection.specs.declared.bounds.Bounds.{Bounds}
-use Rattle.study.specs.Calls.{Call, Deed}
+use Rattle.study.specs.Calls.{Call}
 use Rattle.study.specs.History.{Did, Event, Run, due}
 use Rattle.study.specs.Replies.{Reply}
 use Rattle.study.specs.declared.state.Study.{Study}

@@ -5,12 +5,12 @@ use Rattle.std.specs.List.{slice_get}
 use Rattle.std.specs.Option.{option_map}
 use Rattle.std.proofs.lemmas.List.{drop-map, take-map}
 use Rattle.std.proofs.lemmas.Option.{slice_get-map}
-use Rattle.points.specs.Points.{Meaning, at_points, eight, rank_of}
+use Rattle.points.specs.Points.{at_points, eight, rank_of}
 use Rattle.maps.specs.JobRanges.{longest}
-use Rattle.maps.specs.Response.{blocking, holdup, job_meaning, job_size, job_sizes, of_job, preemption, releases, response}
+use Rattle.maps.specs.Response.{blocking, holdup, job_meaning, job_sizes, of_job, preemption, releases, response}
 use Rattle.maps.specs.declared.jobs.job.Job.{Job}
 use Rattle.sheets.specs.JobsBody.{Terms, terms_of}
-use Rattle.transcript.specs.Panels.{longest_terms, of_terms, terms_blocking, terms_meaning, terms_preemption, terms_response, terms_size, terms_sizes}
+use Rattle.transcript.specs.Panels.{longest_terms, of_terms, terms_blocking, terms_meaning, terms_preemption, terms_response, terms_sizes}
 
 pub longest_of_terms : (js : List Job) → longest js ≡ longest_terms (map terms_of js)
 longest_of_terms [] = refl

@@ -1,6 +1,5 @@
 use Rattle.std.proofs.Common.{sym, ◌∙◌, rules}
 use Rattle.std.proofs.lemmas.List.{drop_all}
-use Rattle.chains.specs.Letters.{place_from}
 use Rattle.chains.specs.LetterLaws.{place_here, place_next}
 use Rattle.chains.proofs.grades.place_of.Goals as goal
 

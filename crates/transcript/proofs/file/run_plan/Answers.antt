@@ -1,4 +1,4 @@
-use Rattle.std.proofs.Common.{◌≡◌, List, map, replicate, vec_items, string_bytes, sym, ap, ◌∙◌, rules}
+use Rattle.std.proofs.Common.{map, replicate, vec_items, string_bytes, sym, ap, ◌∙◌}
 use mathlib.Core.Path.{subst₃}
 use mathlib.Core.List.{map-map}
 use Rattle.maps.specs.Recall.{memo_rules}

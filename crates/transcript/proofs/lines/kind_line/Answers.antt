@@ -1,4 +1,4 @@
-use Rattle.std.proofs.Common.{string_bytes, codes, rules}
+use Rattle.std.proofs.Common.{string_bytes, codes}
 use lib.Utf8.{encode}
 use Rattle.transcript.proofs.Spoken.{kind_made, made_by}
 use Rattle.transcript.proofs.lines.kind_line.Goals as goal

@@ -1,4 +1,4 @@
-use Rattle.std.proofs.Common.{map, string_bytes, decimal, rules}
+use Rattle.std.proofs.Common.{map, string_bytes, decimal}
 use lib.Utf8.{encode}
 use Rattle.transcript.proofs.Spoken.{line_made, made_by}
 use Rattle.transcript.proofs.lines.line.Goals as goal

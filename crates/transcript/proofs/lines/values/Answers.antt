@@ -1,4 +1,4 @@
-use Rattle.std.proofs.Common.{◌≡◌, [], ◌∷◌, ◌++◌, map, string_bytes, sym, ◌∙◌, rules}
+use Rattle.std.proofs.Common.{◌≡◌, [], ◌∷◌, ◌++◌, map, string_bytes, ◌∙◌}
 use lib.Utf8.{encode}
 use Rattle.transcript.specs.Text.{words_on}
 use Rattle.transcript.proofs.Spoken.{words_all, words_more}

@@ -1,4 +1,4 @@
-use Rattle.std.proofs.Common.{string_bytes, rules}
+use Rattle.std.proofs.Common.{string_bytes}
 use Rattle.sheets.specs.CallsBody.{asked_of}
 use Rattle.transcript.specs.Transcript.{call_of}
 use Rattle.transcript.proofs.Going.{going_all, going_first, going_more}

@@ -1,4 +1,4 @@
-use Rattle.std.proofs.Common.{◌++◌, map, string_bytes, ◌∙◌, ap₂, rules}
+use Rattle.std.proofs.Common.{◌++◌, map, string_bytes, ◌∙◌, ap₂}
 use Rattle.sheets.specs.CallsBody.{asked_of}
 use Rattle.transcript.specs.Lines.{kind_line}
 use Rattle.transcript.specs.Transcript.{call_of}

@@ -1,7 +1,6 @@
-use Rattle.std.proofs.Common.{take, sym, ap, ◌∙◌, arith, rules}
+use Rattle.std.proofs.Common.{arith, rules}
 use Rattle.std.proofs.lemmas.List.{length-take-le}
 use Rattle.chains.specs.GradeOrder.{listed}
-use Rattle.chains.specs.Letters.{place_of}
 use Rattle.chains.specs.LetterLaws.{place_below}
 use Rattle.chains.proofs.grades.GradesChain.rank.Goals as goal
 

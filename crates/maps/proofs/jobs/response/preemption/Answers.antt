@@ -1,4 +1,4 @@
-use Rattle.std.proofs.Common.{◌≡◌, ◌+◌, drop, ap, arith, rules}
+use Rattle.std.proofs.Common.{ap, arith, rules}
 use Rattle.std.proofs.lemmas.List.{drop_all}
 use Rattle.maps.specs.Response.{preemption}
 use Rattle.maps.proofs.Slices.{preemption_more}

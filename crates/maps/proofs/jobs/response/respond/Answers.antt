@@ -1,4 +1,4 @@
-use Rattle.std.proofs.Common.{◌≡◌, ◌+◌, ◌-◌, length, take, drop, sym, ap, ◌∙◌, ap₂, arith, rules}
+use Rattle.std.proofs.Common.{◌≡◌, ◌+◌, ◌-◌, length, take, ap, ◌∙◌, ap₂, arith, rules}
 use Rattle.maps.specs.Response.{blocking, preemption}
 use Rattle.points.specs.Points.{rank_of}
 use Rattle.maps.proofs.Slices.{response_at, rest_of}

@@ -1,4 +1,4 @@
-use Rattle.std.proofs.Common.{◌≡◌, true, None, Err, sym, refl, ap, ◌∙◌, subst, rules}
+use Rattle.std.proofs.Common.{◌≡◌, true, None, Err, sym, ap, ◌∙◌, subst, rules}
 use Rattle.points.specs.Points.{is_point}
 use Rattle.maps.specs.Layers.{passed}
 use Rattle.maps.specs.Recall.{kept, recalled, stored}

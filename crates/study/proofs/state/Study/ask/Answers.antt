@@ -1,4 +1,4 @@
-use Rattle.std.proofs.Common.{◌≡◌, [], length, Ok, Err, sym, refl, ap, ◌∙◌}
+use Rattle.std.proofs.Common.{[], length, Ok, Err, sym, refl, ap, ◌∙◌}
 use Rattle.std.proofs.lemmas.Result.{err_from_is_err_and}
 use Rattle.study.specs.Calls.{answered, point_named, with_answer}
 use Rattle.study.specs.Calls.Call.{ask}

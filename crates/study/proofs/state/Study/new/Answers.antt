@@ -1,6 +1,5 @@
 use Rattle.std.proofs.Common.{ap, ◌∙◌}
 use Rattle.study.specs.History.{whole_box}
-use Rattle.study.specs.declared.state.Study.{Study}
 use Rattle.study.proofs.Lawfully.{law_of_runs}
 use Rattle.study.proofs.state.Study.new.Goals as goal
 

@@ -1,4 +1,4 @@
-use Rattle.std.proofs.Common.{◌≡◌, ◌+◌, [], length, Ok, Err, sym, refl, ap, ◌∙◌, add-one}
+use Rattle.std.proofs.Common.{◌+◌, [], length, Ok, Err, sym, refl, ap, ◌∙◌, add-one}
 use Rattle.std.proofs.lemmas.Result.{err_from_is_err_and}
 use Rattle.points.specs.Points.{first_above}
 use Rattle.points.specs.declared.Entry.{Entry}

@@ -1,4 +1,4 @@
-use Rattle.std.proofs.Common.{◌≡◌, suc, ◌+◌, ◌-◌, ◌*◌, ◌≤◌, length, take, Ok, Err, sym, refl, ap, ◌∙◌, arith}
+use Rattle.std.proofs.Common.{◌≡◌, ◌+◌, ◌-◌, ◌*◌, ◌≤◌, length, take, Ok, refl, ap, ◌∙◌, arith}
 use Rattle.bisection.specs.Run.{Outcome}
 use Rattle.study.specs.Calls.{pair_ranks}
 use Rattle.study.specs.Seek.{due_search}

@@ -1,7 +1,7 @@
-use Rattle.std.proofs.Common.{◌≡◌, ℕ, suc, ◌+◌, ◌-◌, ◌<◌, ◌≤◌, min, max, List, length, drop, set, sym, refl, ap, ◌∙◌, subst, subst₂, add-one, arith}
+use Rattle.std.proofs.Common.{suc, ◌+◌, ◌-◌, drop, set, sym, refl, ap, ◌∙◌, subst, subst₂, add-one, arith}
 use Rattle.std.proofs.lemmas.List.{length-take}
-use Rattle.bisection.specs.Levels.{opened, question}
-use Rattle.bisection.specs.Machine.{in_range, levels_of}
+use Rattle.bisection.specs.Levels.{opened}
+use Rattle.bisection.specs.Machine.{levels_of}
 use Rattle.bisection.proofs.Steps.{move_leaves, up_agrees, up_within}
 use Rattle.bisection.specs.Run.{Outcome}
 use Rattle.bisection.specs.declared.verdict.Verdict.TheVariants.{Settled, Pair, Move}

@@ -1,4 +1,4 @@
-use Rattle.std.proofs.Common.{length, sym, ap, ◌∙◌, arith}
+use Rattle.std.proofs.Common.{length, ap, ◌∙◌, arith}
 use Rattle.maps.specs.Indexed.{all_points}
 use Rattle.maps.specs.Replies.{row_sizes}
 use Rattle.maps.proofs.RowPushed.{blank_free, blank_spread}

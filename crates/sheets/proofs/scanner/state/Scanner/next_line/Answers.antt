@@ -1,4 +1,4 @@
-use Rattle.std.proofs.Common.{◌≡◌, ◌+◌, ◌-◌, ◌≤◌, true, false, ◌⊎◌, length, take, drop, sym, ap, ◌∙◌, inl, inr, add-one, arith, rules}
+use Rattle.std.proofs.Common.{◌≡◌, ◌+◌, ◌≤◌, true, false, ◌⊎◌, length, take, drop, sym, ap, ◌∙◌, inl, inr, add-one, arith, rules}
 use Rattle.std.proofs.lemmas.List.{take_rest}
 use Rattle.sheets.specs.Lines.{line_from, neat, next_line}
 use Rattle.sheets.proofs.LineSteps.{front_is, line_fails, line_goes, line_missing}
