@@ -1,5 +1,5 @@
 // Hand-worked cases.
-mod chains;
 mod jobs;
 mod memo;
 mod rows;
+mod ticks_and_grades;

@@ -1,6 +1,6 @@
 -- Written lines and words are found again.
 use Rattle.std.proofs.Common.{◌≡◌, ℕ, suc, ◌<◌, Bool, true, false, cond, ◌&&◌, eqb, List, [], ◌∷◌, ◌++◌, length, take, drop, Some, None, Ok, Option, Result, sym, refl, ap, ◌∙◌, arith}
-use Rattle.std.specs.List.{AllByRecursion as All}
+use Rattle.std.specs.List.{AllByRecursion}
 use Rattle.std.proofs.lemmas.List.{append-nil, drop_all, length-append, take_all, take_at}
 use Rattle.std.proofs.lemmas.Bool.{and_parts, both_ways}
 use Rattle.sheets.specs.Classes.{class_of}
@@ -74,7 +74,7 @@ neat_word (b ∷ c ∷ w) more due h t =
     let parts = and_parts (in_word (class_of b)) _ t in
     rw (goes_in (class_of b) due parts.0) (neat_word (c ∷ w) more false (omega arith) parts.1)
 
-neat_spaced : (w : List ℕ) (ws : List (List ℕ)) → All IsWord (w ∷ ws) → neat true (spaced (w ∷ ws)) ≡ true
+neat_spaced : (w : List ℕ) (ws : List (List ℕ)) → AllByRecursion IsWord (w ∷ ws) → neat true (spaced (w ∷ ws)) ≡ true
 neat_spaced w [] h = ap (neat true) (sym (append-nil w)) ∙ neat_word w [] true h.0.some h.0.bytes
 neat_spaced w (v ∷ ws) h = neat_word w (32 ∷ spaced (v ∷ ws)) true h.0.some h.0.bytes ∙ neat_spaced v ws h.1
 
@@ -98,7 +98,7 @@ some_neat [] h = absurd (both_ways false refl h)
 some_neat (b ∷ t) h = omega arith
 
 -- a written line is the next line
-pub written_line : (w : List ℕ) (ws : List (List ℕ)) (left more : List ℕ) (line : ℕ) → All IsWord (w ∷ ws) → next_line (record { left = left; rest = line_then (w ∷ ws) more; line = line }) ≡ Ok (tt, record { left = spaced (w ∷ ws); rest = more; line = suc line })
+pub written_line : (w : List ℕ) (ws : List (List ℕ)) (left more : List ℕ) (line : ℕ) → AllByRecursion IsWord (w ∷ ws) → next_line (record { left = left; rest = line_then (w ∷ ws) more; line = line }) ≡ Ok (tt, record { left = spaced (w ∷ ws); rest = more; line = suc line })
 unfolding next_line
 written_line w ws left more line h =
     let t = spaced (w ∷ ws) in

@@ -1,6 +1,6 @@
 -- Written calls are read back, whatever the values are.
 use Rattle.std.proofs.Common.{◌≡◌, ℕ, zero, suc, ◌+◌, ◌-◌, ◌^◌, ◌<◌, ◌≤◌, true, false, eqb, List, [], ◌∷◌, ◌++◌, map, length, Ok, codes, refl, ◌∙◌, arith}
-use Rattle.std.specs.List.{AllByRecursion as All}
+use Rattle.std.specs.List.{AllByRecursion}
 use Rattle.std.proofs.lemmas.List.{append_assoc, append-nil, length-append}
 use Rattle.std.proofs.lemmas.Bool.{and_parts, leb-true, ne_eqb}
 use Rattle.chains.specs.TickOrder.{within}
@@ -43,7 +43,7 @@ allow_name : Known (codes "allow")
 allow_name = known (codes "allow") (omega arith) refl refl
 
 module _ {V : Type 0} (value : Reader V) (write : V → List ℕ) (Fits : V → Type 0) (is_word : (v : V) → Fits v → IsWord (write v)) (back : (v : V) (ws : List (List ℕ)) (rest : List ℕ) (line : ℕ) → Fits v → value (at_words (write v ∷ ws) rest line) ≡ Ok (v, at_words ws rest line)) where
-  values_back : (vs before : List V) (room : ℕ) (rest : List ℕ) (line : ℕ) → length vs ≤ room → All Fits vs → more_values value room before (at_words (map write vs) rest line) ≡ Ok (before ++ vs, at_words [] rest line)
+  values_back : (vs before : List V) (room : ℕ) (rest : List ℕ) (line : ℕ) → length vs ≤ room → AllByRecursion Fits vs → more_values value room before (at_words (map write vs) rest line) ≡ Ok (before ++ vs, at_words [] rest line)
   values_back [] before zero rest line h a = rw (append-nil before)
   values_back [] before (suc room) rest line h a = rw (append-nil before)
   values_back (v ∷ vs) before zero rest line h a = absurd (omega arith)
@@ -52,11 +52,11 @@ module _ {V : Type 0} (value : Reader V) (write : V → List ℕ) (Fits : V → 
       let some : eqb (length (spaced (write v ∷ map write vs))) 0 ≡ false = ne_eqb _ 0 (λ e. omega (arith, e, longer)) in
       rw (some, back v (map write vs) rest line a.0) (values_back vs (before ++ v ∷ []) room rest line (omega arith) a.1 ∙ rw (append_assoc before (v ∷ []) vs))
 
-  line_values_back : (vs : List V) (rest : List ℕ) (line : ℕ) → length vs ≤ 8 → All Fits vs → line_values value (at_words (map write vs) rest line) ≡ Ok (vs, at_words [] rest line)
+  line_values_back : (vs : List V) (rest : List ℕ) (line : ℕ) → length vs ≤ 8 → AllByRecursion Fits vs → line_values value (at_words (map write vs) rest line) ≡ Ok (vs, at_words [] rest line)
   unfolding line_values
   line_values_back vs rest line h a = rw (values_back vs [] 8 rest line h a, ends_written rest line)
 
-  value_words : (vs : List V) → All Fits vs → All IsWord (map write vs)
+  value_words : (vs : List V) → AllByRecursion Fits vs → AllByRecursion IsWord (map write vs)
   value_words [] a = tt
   value_words (v ∷ vs) a = (is_word v a.0, value_words vs a.1)
 
@@ -71,7 +71,7 @@ module _ {V : Type 0} (value : Reader V) (write : V → List ℕ) (Fits : V → 
   call_back searches p left more line =
       rw (written_line (codes "search") [] left more line (search_name.0, tt), any_name_written [] more (suc line) (codes "search") search_name.0 search_name.1, ends_written more (suc line))
 
-  calls_all : (calls before : List (Asked V)) → All (ProperCall Fits) calls → Back (λ _. call_line value) (call_words write) before calls
+  calls_all : (calls before : List (Asked V)) → AllByRecursion (ProperCall Fits) calls → Back (λ _. call_line value) (call_words write) before calls
   calls_all [] before h = tt
   calls_all (a ∷ calls) before h = (call_back a h.0, calls_all calls (before ++ a ∷ []) h.1)
 

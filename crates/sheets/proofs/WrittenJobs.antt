@@ -1,6 +1,6 @@
 -- A jobs sheet that is written by the rules is read back.
 use Rattle.std.proofs.Common.{◌≡◌, ℕ, suc, ◌+◌, ◌-◌, true, List, [], ◌∷◌, ◌++◌, length, Some, Ok, codes, decimal, Result, refl, arith}
-use Rattle.std.specs.List.{AllByRecursion as All}
+use Rattle.std.specs.List.{AllByRecursion}
 use Rattle.chains.specs.TickOrder.{within}
 use Rattle.maps.specs.JobRanges.{marks}
 use Rattle.maps.specs.declared.jobs.job.Lock.{Lock}
@@ -56,7 +56,7 @@ job_back t p left more line =
     let w1 : List (List ℕ) = decimal t.run ∷ w2 in
     rw (written_line (codes "job") w1 left more line (job_name.0, (decimal_word t.run run, (decimal_word t.period period, (decimal_word t.limit limit, (decimal_word t.hold hold, (mark_word t.lock, tt)))))), named_written w1 more (suc line) (codes "job") Form job_name.0 job_name.1, numbered_written w2 more (suc line) 1 1000000 t.run run p.run, numbered_written w3 more (suc line) 1 1000000 t.period period p.period, numbered_written w4 more (suc line) 1 t.period t.limit limit p.limit, numbered_written w5 more (suc line) 0 t.run t.hold hold p.hold, mark_written [] more (suc line) m (mark_word t.lock) (mark_form t.lock), lock_written t.lock t.hold (at_words [] more (suc line)) p.mark, ends_written more (suc line))
 
-jobs_all : (jobs before : List Terms) → All ProperJob jobs → Back (λ _. job_line) job_words before jobs
+jobs_all : (jobs before : List Terms) → AllByRecursion ProperJob jobs → Back (λ _. job_line) job_words before jobs
 jobs_all [] before h = tt
 jobs_all (t ∷ jobs) before h = (job_back t h.0, jobs_all jobs (before ++ t ∷ []) h.1)
 

@@ -1,6 +1,6 @@
 -- A rows sheet that is written by the rules is read back.
 use Rattle.std.proofs.Common.{◌≡◌, ℕ, suc, ◌+◌, ◌-◌, ◌≤◌, true, List, [], ◌∷◌, ◌++◌, length, None, Ok, codes, decimal, Result, refl, arith}
-use Rattle.std.specs.List.{AllByRecursion as All}
+use Rattle.std.specs.List.{AllByRecursion}
 use Rattle.std.proofs.lemmas.Bool.{and_parts, leb-true}
 use Rattle.chains.specs.GradeOrder.{grades_fault}
 use Rattle.chains.specs.TickOrder.{within}
@@ -66,7 +66,7 @@ module _ (table : Table) (p : ProperTable table) where
       let second_word = letters_word second (text_some xs p.capital p.distinct d ranged.0 ranged.1 row.answer proper.1) (text_capitals xs p.capital p.distinct d ranged.0 ranged.1 row.answer proper.1) in
       rw (written_line (codes "row") (first ∷ second ∷ []) left more line (row_name.0, (first_word, (second_word, tt))), named_written (first ∷ second ∷ []) more (suc line) (codes "row") Form row_name.0 row_name.1, point_back xs p.capital p.distinct d ranged.0 ranged.1 row.point proper.0 (second ∷ []) more (suc line), comes_new before row.point (at_words (second ∷ []) more (suc line)) fresh.0, point_back xs p.capital p.distinct d ranged.0 ranged.1 row.answer proper.1 [] more (suc line), ends_written more (suc line))
 
-  rows_all : (rows before : List Entry) → All (ProperRow (row_sizes table.dims (length table.letters))) rows → Fresh before rows → Back (row_line table.letters table.dims) (row_words table.letters table.dims) before rows
+  rows_all : (rows before : List Entry) → AllByRecursion (ProperRow (row_sizes table.dims (length table.letters))) rows → Fresh before rows → Back (row_line table.letters table.dims) (row_words table.letters table.dims) before rows
   rows_all [] before h f = tt
   rows_all (row ∷ rows) before h f = (row_back before row h.0 (f.0, tt), rows_all rows (before ++ row ∷ []) h.1 f.1)
 

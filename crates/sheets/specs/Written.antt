@@ -1,6 +1,6 @@
 -- How a sheet is written, so that a sheet that is written is read again.
 use Rattle.std.specs.Prelude.{◌≡◌, ℕ, suc, ◌≤◌, true, false, List, [], ◌∷◌, ◌++◌, map, length, take, is_some, Some, Ok, Err, codes, decimal, Result, slice_index}
-use Rattle.std.specs.List.{AllByRecursion as All}
+use Rattle.std.specs.List.{AllByRecursion}
 use Rattle.chains.specs.Letters.{capitals, different, is_capital}
 use Rattle.chains.specs.TickOrder.{within}
 use Rattle.points.specs.Points.{is_point}
@@ -69,20 +69,20 @@ pub record ProperJob (t : Terms) : Type 0 where
 
 -- up to eight values, each of which may be written
 abbrev pub ProperCall : {V : Type 0} → (V → Type 0) → Asked V → Type 0
-ProperCall Fits (asks vs) = (length vs ≤ 8) × All Fits vs
-ProperCall Fits (raises vs) = (length vs ≤ 8) × All Fits vs
-ProperCall Fits (lowers vs) = (length vs ≤ 8) × All Fits vs
+ProperCall Fits (asks vs) = (length vs ≤ 8) × AllByRecursion Fits vs
+ProperCall Fits (raises vs) = (length vs ≤ 8) × AllByRecursion Fits vs
+ProperCall Fits (lowers vs) = (length vs ≤ 8) × AllByRecursion Fits vs
 ProperCall Fits searches = Unit {0}
 
 pub record ProperPlan {V : Type 0} (Fits : V → Type 0) (plan : Planned V) : Type 0 where
   pub allow : within 0 9999999 plan.allow ≡ true
   pub count : within 1 200 (suc (length plan.calls)) ≡ true
-  pub calls : All (ProperCall Fits) plan.calls
+  pub calls : AllByRecursion (ProperCall Fits) plan.calls
 
 pub record ProperPanel (panel : Panel) : Type 0 where
   pub step : within 1 1000 panel.step ≡ true
   pub count : within 2 9 (suc (length panel.jobs)) ≡ true
-  pub jobs : All ProperJob panel.jobs
+  pub jobs : AllByRecursion ProperJob panel.jobs
 
 -- a value of a jobs map that a file can write
 abbrev pub TickFits : ℕ → Type 0
@@ -122,7 +122,7 @@ pub record ProperTable (table : Table) : Type 0 where
   pub distinct : different table.letters ≡ true
   pub dims : within 1 4 table.dims ≡ true
   pub count : within 1 4097 (suc (length table.rows)) ≡ true
-  pub rows : All (ProperRow (row_sizes table.dims (length table.letters))) table.rows
+  pub rows : AllByRecursion (ProperRow (row_sizes table.dims (length table.letters))) table.rows
   pub fresh : Fresh [] table.rows
 
 -- a value of a rows map that a file can write
