@@ -1,4 +1,4 @@
-// settle: reads a sheet file from standard input, and prints what its calls tell.
+// settle_file: reads a sheet file from standard input, and prints what its calls tell.
 #![tactic(auto)]
 
 ghost use Rattle.std.specs.Prelude.{◌≡◌, ◌+◌, ◌≤◌, IfOk, vec_len};
@@ -40,19 +40,11 @@ fn read_file<R: Read>(heap: Global, input: &mut R) -> io::Result<Vec<u8>>
     Ok(file)
 }
 
-// Nothing is printed until the whole text is there.
-fn settle(rt: &HostRuntime) -> anyhow::Result<()> {
+// Nothing is printed until the whole text is there. Want of memory, or a failed read or write, is told on standard error and
+// ends with status 1.
+fn main(rt: HostRuntime) -> anyhow::Result<()> {
     let file = read_file(rt.alloc(), &mut rt.stdin())?;
     let text = run_file(rt.alloc(), &file)?;
     rt.stdout().write_all(text.as_bytes())?;
     Ok(())
-}
-
-// Want of memory, or a failed read or write, is told on standard error and ends with status 1.
-fn main(rt: HostRuntime) -> anyhow::Result<()> {
-    let done = settle(&rt);
-    if let Err(error) = &done {
-        let _ = eprintln!(rt; "settle: {error}");
-    }
-    done
 }
