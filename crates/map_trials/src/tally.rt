@@ -1,7 +1,7 @@
 // A layer that counts the questions put to the map below, and passes on what it tells as it is.
 ghost use Rattle.maps.specs.Through.{through};
 ghost use Rattle.map_trials.specs.Tallied.{tally_rules};
-ghost use Rattle.std.proofs.Common.{rules};
+ghost use Rattle.maps.specs.Layered.{through_laws};
 
 use chains::Chain;
 use maps::Map;
@@ -22,7 +22,7 @@ impl<M: Map> Chain for Tally<M> {
 
     ghost order = { through (λ m. m.map) M.Chain.order };
 
-    ghost order_laws = { Prim.search rules };
+    ghost order_laws = { through_laws (λ m. m.map) M.Chain.order M.Chain.order_laws };
 
     fn kind_letter() -> char {
         M::kind_letter()

@@ -5,7 +5,7 @@ ghost use Rattle.std.specs.Prelude.{◌≡◌, []};
 ghost use Rattle.points.specs.Points.{Monotone};
 ghost use Rattle.maps.specs.Recall.{answers_by, memo_rules, recalled, stored, stored_with};
 ghost use Rattle.maps.specs.Through.{through};
-ghost use Rattle.std.proofs.Common.{rules, arith};
+ghost use Rattle.maps.specs.Layered.{through_laws};
 ghost use Rattle.maps.specs.MemoLaws.{memo_laws};
 
 use crate::layer::deeper;
@@ -88,7 +88,7 @@ impl<M: Map> Chain for Memo<M> {
 
     ghost order = { through (λ m. m.map) M.Chain.order };
 
-    ghost order_laws = { first_of (Prim.search rules, Prim.grind (arith, Self.row.coded.inj)) };
+    ghost order_laws = { through_laws (λ m. m.map) M.Chain.order M.Chain.order_laws };
 
     fn kind_letter() -> char {
         M::kind_letter()
