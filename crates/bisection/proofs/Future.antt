@@ -30,19 +30,19 @@ now_not_later x n (l ∷ ls) r (inr f) = now_not_later x (suc n) ls r.1 f
 
 -- the middles of the levels from n on lie in these bounds
 abbrev pub Middles : Bounds → ℕ → List Level → Type 0
-Middles b n ls = Tail (λ j m. (rank_of b.floor j ≤ m) × (m ≤ rank_of b.roof j)) n ls
+Middles b n ls = Tail (λ j m. (rank_of b.floor.at j ≤ m) × (m ≤ rank_of b.roof.at j)) n ls
 
 -- a question within bounds b below n, which has the middles above
 pub reads_between : (b : Bounds) (x : List ℕ) (ls : List Level) → Middles b 0 ls → Reads x 0 ls → Between b x
 reads_between b x ls t r = (
-  λ j. tail_join (λ j m. (rank_of b.floor j ≤ m) × (m ≤ rank_of b.roof j)) (λ j m. rank_of x j ≡ m) (λ j. rank_of b.floor j ≤ rank_of x j) 0 ls
+  λ j. tail_join (λ j m. (rank_of b.floor.at j ≤ m) × (m ≤ rank_of b.roof.at j)) (λ j m. rank_of x j ≡ m) (λ j. rank_of b.floor.at j ≤ rank_of x j) 0 ls
       (λ j m p s. omega arith) t r j (omega arith),
-  λ j. tail_join (λ j m. (rank_of b.floor j ≤ m) × (m ≤ rank_of b.roof j)) (λ j m. rank_of x j ≡ m) (λ j. rank_of x j ≤ rank_of b.roof j) 0 ls
+  λ j. tail_join (λ j m. (rank_of b.floor.at j ≤ m) × (m ≤ rank_of b.roof.at j)) (λ j m. rank_of x j ≡ m) (λ j. rank_of x j ≤ rank_of b.roof.at j) 0 ls
       (λ j m p s. omega arith) t r j (omega arith),
 )
 
 -- after levels are opened below n, what is coming lies in their bounds and has the middles above, or is the future of the levels above
-pub opened_coming : (b : Bounds) (n : ℕ) (ls : List Level) (x : List ℕ) → AtMost b.floor b.roof → Middles b n ls → Coming 0 (opened b n ls) x → (Between b x × Reads x n ls) ⊎ Future n ls x
+pub opened_coming : (b : Bounds) (n : ℕ) (ls : List Level) (x : List ℕ) → AtMost b.floor.at b.roof.at → Middles b n ls → Coming 0 (opened b n ls) x → (Between b x × Reads x n ls) ⊎ Future n ls x
 opened_coming b zero ls x o t (inl r) = inl (reads_between b x ls t r, r)
 opened_coming b zero ls x o t (inr f) = inr f
 opened_coming b (suc k) ls x o t c = step (opened_coming b k (level_at k b ∷ ls) x o ((omega arith, omega (arith, o k)), t) c)

@@ -1,9 +1,9 @@
 pub mod Along
-pub mod Copied
 pub mod Sizes
 pub mod Future
 pub mod Honesty
 pub mod Moves
+pub mod Opened
 pub mod Progress
 pub mod Promised
 pub mod Question
@@ -11,6 +11,7 @@ pub mod Ready
 pub mod Runs
 pub mod Steps
 pub mod Still
-pub mod Stored
 pub mod Tails
 pub mod Ways
+pub mod Written
+pub mod Zeros

@@ -8,6 +8,7 @@ use Rattle.bisection.specs.Judge.Decision.{settled, pair, goes}
 use Rattle.bisection.specs.Levels.{level_at, opened}
 use Rattle.bisection.specs.Sound.{Bottom, Top}
 use Rattle.bisection.specs.declared.bounds.Bounds.{Bounds}
+use Rattle.bisection.specs.declared.bounds.Side.{Side}
 use Rattle.bisection.specs.declared.level.Level.{Level}
 use Rattle.bisection.proofs.Future.{Reads, Future, Coming, narrowed_coming}
 use Rattle.bisection.proofs.Moves.{Narrowed, Narrowable, moved_all, raised_narrows, lowered_narrows}
@@ -21,7 +22,7 @@ use Rattle.bisection.proofs.Ways.Ways.{done, up, over, under, raise, lower}
 abbrev pub Within : ℕ → List ℕ → List Level → Type 0
 Within k q [] = Unit {0}
 Within k q (l ∷ ls) =
-    (i : ℕ) → i < k → (rank_of l.bounds.floor i ≤ rank_of q i) × (rank_of q i ≤ rank_of l.bounds.roof i)
+    (i : ℕ) → i < k → (rank_of l.bounds.floor.at i ≤ rank_of q i) × (rank_of q i ≤ rank_of l.bounds.roof.at i)
 
 -- judging has come to level k, the lowest of these: the levels below agreed
 pub record Reached (e : Entry) (k : ℕ) (ls : List Level) : Type 0 where
@@ -50,12 +51,12 @@ opened_many b (suc k) ls = omega (arith, opened_many b k (level_at k b ∷ ls))
 
 module _ (Put : Entry → Type 0) (sizes : List ℕ) (e : Entry) (put : Put e) where
   -- the question lies within the bounds of level k in coordinate k too
-  here : (k : ℕ) (l : Level) (ls : List Level) → Good Put sizes k (l ∷ ls) → Reached e k (l ∷ ls) → (i : ℕ) → i < suc k → (rank_of l.bounds.floor i ≤ rank_of e.point i) × (rank_of e.point i ≤ rank_of l.bounds.roof i)
+  here : (k : ℕ) (l : Level) (ls : List Level) → Good Put sizes k (l ∷ ls) → Reached e k (l ∷ ls) → (i : ℕ) → i < suc k → (rank_of l.bounds.floor.at i ≤ rank_of e.point i) × (rank_of e.point i ≤ rank_of l.bounds.roof.at i)
   here k l ls g r i h = ⊎_elim (λ lt. r.within i lt) (λ le. at (omega arith)) (cases_lt i k)
     where
-      at : k ≡ i → (rank_of l.bounds.floor i ≤ rank_of e.point i) × (rank_of e.point i ≤ rank_of l.bounds.roof i)
+      at : k ≡ i → (rank_of l.bounds.floor.at i ≤ rank_of e.point i) × (rank_of e.point i ≤ rank_of l.bounds.roof.at i)
       at s =
-          subst (λ j. (rank_of l.bounds.floor j ≤ rank_of e.point j) × (rank_of e.point j ≤ rank_of l.bounds.roof j)) s
+          subst (λ j. (rank_of l.bounds.floor.at j ≤ rank_of e.point j) × (rank_of e.point j ≤ rank_of l.bounds.roof.at j)) s
           (omega (arith, g.0, r.reads.0), omega (arith, g.0, r.reads.0, g.1.ordered k))
 
   reached_up : (k : ℕ) (l : Level) (ls : List Level) → Good Put sizes k (l ∷ ls) → Reached e k (l ∷ ls) → rank_of e.answer k ≡ l.middle → Reached e (suc k) ls
@@ -70,7 +71,7 @@ module _ (Put : Entry → Type 0) (sizes : List ℕ) (e : Entry) (put : Put e) w
       at : (i : ℕ) → k ≡ i → rank_of e.answer i ≡ rank_of e.point i
       at i t = subst (λ j. rank_of e.answer j ≡ rank_of e.point j) t (s ∙ sym r.reads.0)
 
-      nested : (us : List Level) → ((i : ℕ) → i < suc k → (rank_of l.bounds.floor i ≤ rank_of e.point i) × (rank_of e.point i ≤ rank_of l.bounds.roof i)) → Nests l.bounds us → Within (suc k) e.point us
+      nested : (us : List Level) → ((i : ℕ) → i < suc k → (rank_of l.bounds.floor.at i ≤ rank_of e.point i) × (rank_of e.point i ≤ rank_of l.bounds.roof.at i)) → Nests l.bounds us → Within (suc k) e.point us
       nested [] w n = n
       nested (u ∷ us) w n = λ i h. (omega (arith, n.0 i, (w i h).0), omega (arith, n.1 i, (w i h).1))
 
@@ -86,7 +87,7 @@ module _ (Put : Entry → Type 0) (sizes : List ℕ) (e : Entry) (put : Put e) w
       }
 
   -- this question is the footing of the side that it moved
-  held : (R : ℕ → ℕ → Type 0) (End : Type 0) → ((x : ℕ) → R x x) → (k : ℕ) (l : Level) (ls : List Level) (side : List ℕ) → Good Put sizes k (l ∷ ls) → Reached e k (l ∷ ls) → length side ≡ 8 → R l.middle (rank_of e.answer k) → Held Put R End (suc k) (moved k e side) ls (Some e)
+  held : (R : ℕ → ℕ → Type 0) (End : List ℕ → Type 0) → ((x : ℕ) → R x x) → (k : ℕ) (l : Level) (ls : List Level) (side : Side) → Good Put sizes k (l ∷ ls) → Reached e k (l ∷ ls) → length side.at ≡ 8 → R l.middle (rank_of e.answer k) → Held Put R End (suc k) (moved k e side).at ls (Some e)
   held R End same k l ls side g r eight way = (
     moved_all k e side g.1.small r.eight eight (λ i v. i < suc k → R (rank_of e.point i) v × R v (rank_of e.answer i))
         (λ i h _. (same _, subst (R (rank_of e.point i)) (sym (r.same i h)) (same _)))
@@ -116,12 +117,12 @@ module _ (Put : Entry → Type 0) (sizes : List ℕ) (e : Entry) (put : Put e) w
       let n = raised_narrows k l.bounds e (narrowable k l ls g r) (omega (arith, g.0)) fits in
       moved_on k l (raised k e l.bounds) ls g n
       (narrowed_ready Put sizes k (middle l.bounds k) l.bounds (raised k e l.bounds) ls g.1 n
-      (held Up (Bottom (moved k e l.bounds.floor)) (λ x. omega arith) k l ls l.bounds.floor g r g.1.floor_eight (omega arith)) g.1.high)
+      (held Up Bottom (λ x. omega arith) k l ls l.bounds.floor g r g.1.floor_eight (omega arith)) g.1.high)
   progress (lower {k = k} {l = l} {ls = ls} fewer fits) g r =
       let n = lowered_narrows k l.bounds e (narrowable k l ls g r) (omega (arith, g.0)) fits in
       moved_on k l (lowered k e l.bounds) ls g n
       (narrowed_ready Put sizes k (middle l.bounds k) l.bounds (lowered k e l.bounds) ls g.1 n g.1.low
-      (held Down (Top sizes (moved k e l.bounds.roof)) (λ x. omega arith) k l ls l.bounds.roof g r g.1.roof_eight (omega arith)))
+      (held Down (Top sizes) (λ x. omega arith) k l ls l.bounds.roof g r g.1.roof_eight (omega arith)))
 
   -- where it is settled, every coordinate agrees
   pub agreed : {k : ℕ} {ls : List Level} → Ways e k ls settled → Good Put sizes k ls → Reached e k ls → (i : ℕ) → i < k + length ls → rank_of e.answer i ≡ rank_of e.point i
@@ -129,7 +130,7 @@ module _ (Put : Entry → Type 0) (sizes : List ℕ) (e : Entry) (put : Put e) w
   agreed (up {k = k} {l = l} {ls = ls} s w) g r i h = agreed w g.2 (reached_up k l ls g r s) i (omega arith)
 
   -- the footing's point lies on its side of the question
-  beside : (R : ℕ → ℕ → Type 0) → ((x y z : ℕ) → R x y → R y z → R x z) → (k : ℕ) (l : Level) (ls : List Level) (side : List ℕ) (End : Type 0) (f : Entry) → Reached e k (l ∷ ls) → ((i : ℕ) → i < suc k → R (rank_of side i) (rank_of e.point i)) → Held Put R End (suc k) side ls (Some f) → (i : ℕ) → R (rank_of f.point i) (rank_of e.point i)
+  beside : (R : ℕ → ℕ → Type 0) → ((x y z : ℕ) → R x y → R y z → R x z) → (k : ℕ) (l : Level) (ls : List Level) (side : List ℕ) (End : List ℕ → Type 0) (f : Entry) → Reached e k (l ∷ ls) → ((i : ℕ) → i < suc k → R (rank_of side i) (rank_of e.point i)) → Held Put R End (suc k) side ls (Some f) → (i : ℕ) → R (rank_of f.point i) (rank_of e.point i)
   beside R trans k l ls side End f r near h i =
       ⊎_elim (λ lt. trans _ _ _ (h.0 i lt).0 (near i lt))
       (λ le. tail_join (λ j m. rank_of e.point j ≡ m) (λ j m. R (rank_of f.point j) m) (λ j. R (rank_of f.point j) (rank_of e.point j))
@@ -139,29 +140,29 @@ module _ (Put : Entry → Type 0) (sizes : List ℕ) (e : Entry) (put : Put e) w
   -- where it is a pair, the two contradict each other, if the answer lies in the lattice
   pub contradict : ((i : ℕ) → i < 8 → rank_of e.answer i < size_of sizes i) → {k j : ℕ} {ls : List Level} {low high : Entry} → Ways e k ls (pair low high j) → Good Put sizes k ls → Reached e k ls → Contradict Put low high j
   contradict in_lattice (up {k = k} {l = l} {ls = ls} s w) g r = contradict in_lattice w g.2 (reached_up k l ls g r s)
-  contradict in_lattice (over {k = k} {l = l} {ls = ls} above past) g r = roofed l.bounds.roof_footing g.1.high
+  contradict in_lattice (over {k = k} {l = l} {ls = ls} above past) g r = roofed l.bounds.roof.footing g.1.high
     where
-      roofed : (f : Option Entry) → Held Put Down (Top sizes l.bounds.roof) (suc k) l.bounds.roof ls f → Contradict Put e (footing f) k
+      roofed : (f : Option Entry) → Held Put Down (Top sizes) (suc k) l.bounds.roof.at ls f → Contradict Put e (footing f) k
       roofed None h = absurd (omega (arith, h k g.1.small, in_lattice k g.1.small))
       roofed (Some f) h =
           record {
             put_low = put;
             put_high = h.2;
             points =
-                beside Down (λ x y z p q. omega arith) k l ls l.bounds.roof (Top sizes l.bounds.roof) f r
+                beside Down (λ x y z p q. omega arith) k l ls l.bounds.roof.at (Top sizes) f r
                 (λ i lt. (here k l ls g r i lt).1) h;
             answers = omega (arith, (h.0 k (omega arith)).1);
           }
-  contradict in_lattice (under {k = k} {l = l} {ls = ls} below past) g r = floored l.bounds.floor_footing g.1.low
+  contradict in_lattice (under {k = k} {l = l} {ls = ls} below past) g r = floored l.bounds.floor.footing g.1.low
     where
-      floored : (f : Option Entry) → Held Put Up (Bottom l.bounds.floor) (suc k) l.bounds.floor ls f → Contradict Put (footing f) e k
+      floored : (f : Option Entry) → Held Put Up Bottom (suc k) l.bounds.floor.at ls f → Contradict Put (footing f) e k
       floored None h = absurd (omega (arith, h k))
       floored (Some f) h =
           record {
             put_low = h.2;
             put_high = put;
             points =
-                beside Up (λ x y z p q. omega arith) k l ls l.bounds.floor (Bottom l.bounds.floor) f r
+                beside Up (λ x y z p q. omega arith) k l ls l.bounds.floor.at Bottom f r
                 (λ i lt. (here k l ls g r i lt).0) h;
             answers = omega (arith, (h.0 k (omega arith)).1);
           }

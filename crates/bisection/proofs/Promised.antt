@@ -43,29 +43,29 @@ module _ (F : Meaning) (sizes : List ℕ) (d : ℕ) (box : Bounds) (left room : 
       (λ le. get_or_past p j 0 (omega (arith, point_eight_lem sizes p t))) (cases_lt j 8)
 
   module _ (Put : Entry → Type 0) where
-    low : (f : Option Entry) → FloorStands F box.floor f → ((e : Entry) → f ≡ Some e → Put e) → Held Put Up (Bottom box.floor) d box.floor [] f
+    low : (f : Option Entry) → FloorStands F box.floor.at f → ((e : Entry) → f ≡ Some e → Put e) → Held Put Up Bottom d box.floor.at [] f
     low None s puts = s
     low (Some e) s puts =
-        (λ i h. (s.0 i, s.1 i), λ j h. omega (arith, s.0 j, flat box.floor sound.floor_point j h), puts e refl)
+        (λ i h. (s.0 i, s.1 i), λ j h. omega (arith, s.0 j, flat box.floor.at sound.floor_point j h), puts e refl)
 
-    high : (f : Option Entry) → RoofStands F sizes box.roof f → ((e : Entry) → f ≡ Some e → Put e) → Held Put Down (Top sizes box.roof) d box.roof [] f
+    high : (f : Option Entry) → RoofStands F sizes box.roof.at f → ((e : Entry) → f ≡ Some e → Put e) → Held Put Down (Top sizes) d box.roof.at [] f
     high None s puts = s
     high (Some e) s puts = (λ i h. (s.1 i, s.0 i), λ j h. omega arith, puts e refl)
 
-    ready : ((e : Entry) → box.floor_footing ≡ Some e → Put e) → ((e : Entry) → box.roof_footing ≡ Some e → Put e) → Ready Put sizes d box []
+    ready : ((e : Entry) → box.floor.footing ≡ Some e → Put e) → ((e : Entry) → box.roof.footing ≡ Some e → Put e) → Ready Put sizes d box []
     ready floored roofed =
         record {
           small = sound.most;
-          floor_eight = point_eight_lem sizes box.floor sound.floor_point;
-          roof_eight = point_eight_lem sizes box.roof sound.roof_point;
+          floor_eight = point_eight_lem sizes box.floor.at sound.floor_point;
+          roof_eight = point_eight_lem sizes box.roof.at sound.roof_point;
           ordered = sound.ordered;
-          tail = λ j h. (omega (arith, flat box.floor sound.floor_point j h), omega arith);
+          tail = λ j h. (omega (arith, flat box.floor.at sound.floor_point j h), omega arith);
           nests = tt;
-          low = low box.floor_footing sound.floor_stands floored;
-          high = high box.roof_footing sound.roof_stands roofed;
+          low = low box.floor.footing sound.floor_stands floored;
+          high = high box.roof.footing sound.roof_stands roofed;
         }
 
-    good : ((e : Entry) → box.floor_footing ≡ Some e → Put e) → ((e : Entry) → box.roof_footing ≡ Some e → Put e) → Good Put sizes 0 (opened box d [])
+    good : ((e : Entry) → box.floor.footing ≡ Some e → Put e) → ((e : Entry) → box.roof.footing ≡ Some e → Put e) → Good Put sizes 0 (opened box d [])
     good floored roofed = opened_good Put sizes d box [] (ready floored roofed) sound.most
 
   -- where nothing is asked of the entries
@@ -87,7 +87,7 @@ module _ (F : Meaning) (sizes : List ℕ) (d : ℕ) (box : Bounds) (left room : 
       within : (Between box q × Reads q d []) ⊎ Future d [] q → Between box q × (is_point sizes q ≡ true)
       within (inl b) = (
         b.0,
-        point_from sizes q c.1 (λ i h. omega (arith, b.0.1 i, point_within sizes box.roof sound.roof_point i h)),
+        point_from sizes q c.1 (λ i h. omega (arith, b.0.1 i, point_within sizes box.roof.at sound.roof_point i h)),
       )
       within (inr b) = absurd b
 
@@ -102,8 +102,8 @@ module _ (F : Meaning) (sizes : List ℕ) (d : ℕ) (box : Bounds) (left room : 
   -- what was put was answered so by F
   put_true : (e : Entry) → WasPut box result e → F e.point ≡ Ok e.answer
   put_true e (inl a) = (honest F way).entries e a
-  put_true e (inr (inl s)) = (subst (FloorStands F box.floor) s sound.floor_stands).2
-  put_true e (inr (inr s)) = (subst (RoofStands F sizes box.roof) s sound.roof_stands).2
+  put_true e (inr (inl s)) = (subst (FloorStands F box.floor.at) s sound.floor_stands).2
+  put_true e (inr (inr s)) = (subst (RoofStands F sizes box.roof.at) s sound.roof_stands).2
 
   pair : (low high : Entry) (k : ℕ) → result.outcome ≡ pairs low high k → Contradiction F box result low high k × (k < d)
   pair low high k s = (

@@ -6,6 +6,7 @@ use Rattle.bisection.specs.Bounds.{middle}
 use Rattle.bisection.specs.Levels.{level_at, opened}
 use Rattle.bisection.specs.Sound.{Bottom, Top}
 use Rattle.bisection.specs.declared.bounds.Bounds.{Bounds}
+use Rattle.bisection.specs.declared.bounds.Side.{Side}
 use Rattle.bisection.specs.declared.level.Level.{Level}
 use Rattle.bisection.proofs.Moves.{Inside, Narrowed}
 use Rattle.bisection.proofs.Tails.{Tail, tail_map}
@@ -19,14 +20,18 @@ Down a b = b ≤ a
 
 -- A side of the bounds over the levels ls, of which the lowest is level n. Its footing's point and answer lie on its two sides below n;
 -- from n on the point lies on the near side of the middles. `Put` says that the footing was put.
-abbrev pub Held : (Entry → Type 0) → (ℕ → ℕ → Type 0) → Type 0 → ℕ → List ℕ → List Level → Option Entry → Type 0
-Held Put R End n side ls None = End
+abbrev pub Held : (Entry → Type 0) → (ℕ → ℕ → Type 0) → (List ℕ → Type 0) → ℕ → List ℕ → List Level → Option Entry → Type 0
+Held Put R End n side ls None = End side
 Held Put R End n side ls (Some e) =
     ((i : ℕ) → i < n → R (rank_of e.point i) (rank_of side i) × R (rank_of side i) (rank_of e.answer i))
     × Tail (λ j m. R (rank_of e.point j) m) n ls
     × Put e
 
-held_down : (Put : Entry → Type 0) (R : ℕ → ℕ → Type 0) (End : Type 0) (trans : (x y z : ℕ) → R x y → R y z → R x z) (k : ℕ) (side : List ℕ) (l : Level) (ls : List Level) (f : Option Entry) → R (rank_of side k) l.middle → Held Put R End (suc k) side ls f → Held Put R End k side (l ∷ ls) f
+-- the same of a side with the footing that it has
+abbrev pub Stands : (Entry → Type 0) → (ℕ → ℕ → Type 0) → (List ℕ → Type 0) → ℕ → Side → List Level → Type 0
+Stands Put R End n side ls = Held Put R End n side.at ls side.footing
+
+held_down : (Put : Entry → Type 0) (R : ℕ → ℕ → Type 0) (End : List ℕ → Type 0) (trans : (x y z : ℕ) → R x y → R y z → R x z) (k : ℕ) (side : List ℕ) (l : Level) (ls : List Level) (f : Option Entry) → R (rank_of side k) l.middle → Held Put R End (suc k) side ls f → Held Put R End k side (l ∷ ls) f
 held_down Put R End trans k side l ls None r h = h
 held_down Put R End trans k side l ls (Some e) r h =
     (λ i lt. h.0 i (omega arith), (trans _ _ _ (h.0 k (omega arith)).0 r, h.1), h.2)
@@ -39,13 +44,13 @@ Nests b (l ∷ ls) = Inside b l.bounds
 -- bounds within which the levels below n may be opened, under the levels ls
 pub record Ready (Put : Entry → Type 0) (sizes : List ℕ) (n : ℕ) (b : Bounds) (ls : List Level) : Type 0 where
   pub small : n ≤ 8
-  pub floor_eight : length b.floor ≡ 8
-  pub roof_eight : length b.roof ≡ 8
-  pub ordered : AtMost b.floor b.roof
-  pub tail : Tail (λ j m. (rank_of b.floor j ≤ m) × (m ≤ rank_of b.roof j)) n ls
+  pub floor_eight : length b.floor.at ≡ 8
+  pub roof_eight : length b.roof.at ≡ 8
+  pub ordered : AtMost b.floor.at b.roof.at
+  pub tail : Tail (λ j m. (rank_of b.floor.at j ≤ m) × (m ≤ rank_of b.roof.at j)) n ls
   pub nests : Nests b ls
-  pub low : Held Put Up (Bottom b.floor) n b.floor ls b.floor_footing
-  pub high : Held Put Down (Top sizes b.roof) n b.roof ls b.roof_footing
+  pub low : Stands Put Up Bottom n b.floor ls
+  pub high : Stands Put Down (Top sizes) n b.roof ls
 
 -- each level from n on has its middle, and bounds within which those below it could be opened
 abbrev pub Good : (Entry → Type 0) → List ℕ → ℕ → List Level → Type 0
@@ -64,10 +69,10 @@ module _ (Put : Entry → Type 0) (sizes : List ℕ) where
         tail = ((omega arith, omega (arith, r.ordered k)), r.tail);
         nests = (λ i. omega arith, λ i. omega arith);
         low =
-            held_down Put Up (Bottom b.floor) (λ x y z p q. omega arith) k b.floor (level_at k b) ls b.floor_footing (omega arith)
+            held_down Put Up Bottom (λ x y z p q. omega arith) k b.floor.at (level_at k b) ls b.floor.footing (omega arith)
             r.low;
         high =
-            held_down Put Down (Top sizes b.roof) (λ x y z p q. omega arith) k b.roof (level_at k b) ls b.roof_footing
+            held_down Put Down (Top sizes) (λ x y z p q. omega arith) k b.roof.at (level_at k b) ls b.roof.footing
             (omega (arith, r.ordered k)) r.high;
       }
 
@@ -77,7 +82,7 @@ module _ (Put : Entry → Type 0) (sizes : List ℕ) where
   opened_good (suc k) b ls r g = opened_good k b (level_at k b ∷ ls) (ready_down k b ls r) (refl, r, g)
 
   -- narrowed bounds are ready if their footings hold
-  pub narrowed_ready : (k m : ℕ) (b c : Bounds) (ls : List Level) → Ready Put sizes (suc k) b ls → Narrowed k m b c → Held Put Up (Bottom c.floor) (suc k) c.floor ls c.floor_footing → Held Put Down (Top sizes c.roof) (suc k) c.roof ls c.roof_footing → Ready Put sizes (suc k) c ls
+  pub narrowed_ready : (k m : ℕ) (b c : Bounds) (ls : List Level) → Ready Put sizes (suc k) b ls → Narrowed k m b c → Stands Put Up Bottom (suc k) c.floor ls → Stands Put Down (Top sizes) (suc k) c.roof ls → Ready Put sizes (suc k) c ls
   narrowed_ready k m b c ls r n low high =
       record {
         small = r.small;
@@ -85,7 +90,7 @@ module _ (Put : Entry → Type 0) (sizes : List ℕ) where
         roof_eight = n.roof_eight;
         ordered = n.ordered;
         tail =
-            tail_map (λ j m. (rank_of b.floor j ≤ m) × (m ≤ rank_of b.roof j)) (λ j m. (rank_of c.floor j ≤ m) × (m ≤ rank_of c.roof j))
+            tail_map (λ j m. (rank_of b.floor.at j ≤ m) × (m ≤ rank_of b.roof.at j)) (λ j m. (rank_of c.floor.at j ≤ m) × (m ≤ rank_of c.roof.at j))
             (suc k) ls (λ j m h p. (omega (arith, (n.kept j h).0, p.0), omega (arith, (n.kept j h).1, p.1))) r.tail;
         nests = nested ls r.nests;
         low = low;

@@ -1,6 +1,8 @@
 -- How large binary digits and their product can be.
-use Rattle.std.proofs.Common.{◌≡◌, ℕ, zero, suc, ◌+◌, ◌*◌, ◌/◌, ◌^◌, ◌<◌, ◌≤◌, Bool, true, false, eqb, sym, refl, ap, ◌∙◌, mul_comm, mul-le-mul, pow-suc, add-one, arith}
+use Rattle.std.proofs.Common.{◌≡◌, ℕ, zero, suc, ◌+◌, ◌-◌, ◌*◌, ◌/◌, ◌^◌, ◌<◌, ◌≤◌, Bool, true, false, eqb, sym, refl, ap, ◌∙◌, mul_comm, mul-le-mul, pow-suc, add-one, arith}
 use native.Mathlib.Nat.{pow-le-pow_right}
+use Rattle.std.proofs.lemmas.Nat.{leading_length, pow_pos}
+use Rattle.std.specs.Int.Count.{count_leading_zeros}
 use Rattle.std.proofs.lemmas.Bool.{eqb-true, eqb-false}
 use Rattle.bisection.specs.Bits.{halvings, binary_digits, product}
 use Rattle.bisection.specs.Bounds.{width}
@@ -24,6 +26,19 @@ within (suc n) v (suc m) h = go (eqb v 0) refl (within n (v / 2) m (omega (arith
 -- a number below a power of two has at most that many digits
 pub digits_below : (m w : ℕ) → w < 2 ^ m → binary_digits w ≤ m
 digits_below m w h = within w w m h
+
+above : (n v m : ℕ) → v ≤ n → 2 ^ m ≤ 2 * v + 1 → m ≤ halvings n v
+above n v zero h p = omega arith
+above zero v (suc m) h p = absurd (omega (arith, pow-suc 2 m, pow_pos m))
+above (suc n) v (suc m) h p =
+    let some : 0 < v = omega (arith, pow-suc 2 m, pow_pos m) in
+    rw (halvings_more n v some) (omega (arith, above n (v / 2) m (omega arith) (omega (arith, pow-suc 2 m))))
+
+-- so the zeros that lead it say how many it has
+pub digits_after : (w : ℕ) → w < 2 ^ 64 → 64 - count_leading_zeros 64 w ≡ binary_digits w
+digits_after w h =
+    let l = leading_length 64 w h in
+    omega (arith, l.1, digits_below l.0 w l.2, above w w l.0 (omega arith) l.3)
 
 -- one coordinate more, of at most 64 digits
 pub product_more : (most x k : ℕ) (b : Bounds) → most ≡ product k b → x ≡ binary_digits (width b k) → most * x ≡ product (k + 1) b

@@ -3,12 +3,11 @@ use Rattle.std.proofs.Common.{◌≡◌, ℕ, zero, suc, ◌+◌, ◌<◌, ltb, 
 use Rattle.std.proofs.lemmas.List.{drop_all}
 use Rattle.std.proofs.lemmas.Bool.{cases_lt, cond-true, lt-ltb}
 use Rattle.points.specs.declared.Entry.{Entry}
-use Rattle.bisection.specs.Judge.{verdict, carried, decide, decision}
-use Rattle.bisection.specs.Levels.{opened, question, entry_of}
-use Rattle.bisection.specs.Machine.{reopened, told, levels_after}
+use Rattle.bisection.specs.Judge.{verdict, carried, decide}
+use Rattle.bisection.specs.Levels.{opened}
+use Rattle.bisection.specs.Machine.{reopened}
 use Rattle.bisection.specs.declared.bounds.Bounds.{Bounds}
 use Rattle.bisection.specs.declared.level.Level.{Level}
-use Rattle.bisection.specs.declared.verdict.Next.{Next}
 use Rattle.bisection.specs.declared.verdict.Verdict.{Verdict}
 use Rattle.bisection.specs.declared.verdict.Verdict.TheVariants.{Settled, Up, Move}
 
@@ -25,18 +24,6 @@ decide_step k ls e = from_place k k ls e
 -- the levels below k agreed and level k gave the verdict v: then that is what is decided
 pub decided_by : (k : ℕ) (ls : List Level) (e : Entry) (v : Verdict) → decide k (drop k ls) e ≡ decide 0 ls e → verdict k (drop k ls) e ≡ v → decide 0 ls e ≡ carried k (drop (suc k) ls) (decide (suc k) (drop (suc k) ls) e) v
 decided_by k ls e v agreed h = sym agreed ∙ decide_step k ls e ∙ ap (carried k (drop (suc k) ls) (decide (suc k) (drop (suc k) ls) e)) h
-
--- the same for a machine that tells n and leaves the levels `after`: `held` are the levels that it judged by, which were still those
--- that it began with
-pub taken_by : (k : ℕ) (held start after : List Level) (q y : List ℕ) (v : Verdict) (n : Next) → held ≡ start → q ≡ question start → decide k (drop k held) (record { point = q; answer = y }) ≡ decide 0 held (record { point = q; answer = y }) → v ≡ verdict k (drop k held) (record { point = q; answer = y }) → n ≡ told (carried k (drop (suc k) held) (decide (suc k) (drop (suc k) held) (record { point = q; answer = y })) v) → after ≡ levels_after (carried k (drop (suc k) held) (decide (suc k) (drop (suc k) held) (record { point = q; answer = y })) v) start → (n ≡ told (decision start y)) × (after ≡ levels_after (decision start y) start)
-taken_by k held start after q y v n same asked agreed h tells leaves =
-    (tells ∙ ap told back, leaves ∙ ap (λ s. levels_after s start) back)
-  where
-    back : carried k (drop (suc k) held) (decide (suc k) (drop (suc k) held) (record { point = q; answer = y })) v ≡ decision start y
-    back =
-        sym (decided_by k held (record { point = q; answer = y }) v agreed (sym h))
-        ∙ ap (λ p. decide 0 held (record { point = p; answer = y })) asked
-        ∙ ap (λ ls. decide 0 ls (entry_of start y)) same
 
 -- only a level that there is says anything but settled
 verdict_within : (k : ℕ) (ls : List Level) (e : Entry) → (verdict k (drop k ls) e ≡ Settled → ⊥) → k < length ls

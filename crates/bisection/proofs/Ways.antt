@@ -13,17 +13,17 @@ use Rattle.bisection.specs.declared.verdict.Verdict.{Verdict}
 pub data Ways (e : Entry) : ℕ → List Level → Decision → Type 0 where
   done : {k : ℕ} → Ways e k [] settled
   up : {k : ℕ} {l : Level} {ls : List Level} {s : Decision} → rank_of e.answer k ≡ l.middle → Ways e (suc k) ls s → Ways e k (l ∷ ls) s
-  over : {k : ℕ} {l : Level} {ls : List Level} → l.middle < rank_of e.answer k → rank_of l.bounds.roof k < rank_of e.answer k → Ways e k (l ∷ ls) (pair e (footing l.bounds.roof_footing) k)
-  under : {k : ℕ} {l : Level} {ls : List Level} → rank_of e.answer k < l.middle → rank_of e.answer k < rank_of l.bounds.floor k → Ways e k (l ∷ ls) (pair (footing l.bounds.floor_footing) e k)
-  raise : {k : ℕ} {l : Level} {ls : List Level} → l.middle < rank_of e.answer k → rank_of e.answer k ≤ rank_of l.bounds.roof k → Ways e k (l ∷ ls) (goes (opened (raised k e l.bounds) (suc k) ls))
-  lower : {k : ℕ} {l : Level} {ls : List Level} → rank_of e.answer k < l.middle → rank_of l.bounds.floor k ≤ rank_of e.answer k → Ways e k (l ∷ ls) (goes (opened (lowered k e l.bounds) (suc k) ls))
+  over : {k : ℕ} {l : Level} {ls : List Level} → l.middle < rank_of e.answer k → rank_of l.bounds.roof.at k < rank_of e.answer k → Ways e k (l ∷ ls) (pair e (footing l.bounds.roof.footing) k)
+  under : {k : ℕ} {l : Level} {ls : List Level} → rank_of e.answer k < l.middle → rank_of e.answer k < rank_of l.bounds.floor.at k → Ways e k (l ∷ ls) (pair (footing l.bounds.floor.footing) e k)
+  raise : {k : ℕ} {l : Level} {ls : List Level} → l.middle < rank_of e.answer k → rank_of e.answer k ≤ rank_of l.bounds.roof.at k → Ways e k (l ∷ ls) (goes (opened (raised k e l.bounds) (suc k) ls))
+  lower : {k : ℕ} {l : Level} {ls : List Level} → rank_of e.answer k < l.middle → rank_of l.bounds.floor.at k ≤ rank_of e.answer k → Ways e k (l ∷ ls) (goes (opened (lowered k e l.bounds) (suc k) ls))
 
 module _ (e : Entry) (k : ℕ) (l : Level) (ls : List Level) (above : Decision) where
-  high : (t : Bool) → ltb (rank_of l.bounds.roof k) (rank_of e.answer k) ≡ t → l.middle < rank_of e.answer k → Ways e k (l ∷ ls) (carried k ls above (cond t (Verdict.Pair e (footing l.bounds.roof_footing)) (Verdict.Move (raised k e l.bounds))))
+  high : (t : Bool) → ltb (rank_of l.bounds.roof.at k) (rank_of e.answer k) ≡ t → l.middle < rank_of e.answer k → Ways e k (l ∷ ls) (carried k ls above (cond t (Verdict.Pair e (footing l.bounds.roof.footing)) (Verdict.Move (raised k e l.bounds))))
   high true t h = over h (ltb-true _ _ t)
   high false t h = raise h (ltb-false _ _ t)
 
-  low : (t : Bool) → ltb (rank_of e.answer k) (rank_of l.bounds.floor k) ≡ t → rank_of e.answer k < l.middle → Ways e k (l ∷ ls) (carried k ls above (cond t (Verdict.Pair (footing l.bounds.floor_footing) e) (Verdict.Move (lowered k e l.bounds))))
+  low : (t : Bool) → ltb (rank_of e.answer k) (rank_of l.bounds.floor.at k) ≡ t → rank_of e.answer k < l.middle → Ways e k (l ∷ ls) (carried k ls above (cond t (Verdict.Pair (footing l.bounds.floor.footing) e) (Verdict.Move (lowered k e l.bounds))))
   low true t h = under h (ltb-true _ _ t)
   low false t h = lower h (ltb-false _ _ t)
 

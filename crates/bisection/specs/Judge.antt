@@ -12,12 +12,12 @@ use Rattle.bisection.specs.declared.verdict.Verdict.TheVariants.{Settled, Up, Pa
 -- the answer is above the middle of coordinate k: past the roof it contradicts the roof's footing, else the floor moves
 abbrev pub answered_above : ℕ → Bounds → Entry → Verdict
 answered_above k b e =
-    cond (nat_lt (rank_of b.roof k) (rank_of e.answer k)) (Pair e (footing b.roof_footing)) (Move (raised k e b))
+    cond (nat_lt (rank_of b.roof.at k) (rank_of e.answer k)) (Pair e (footing b.roof.footing)) (Move (raised k e b))
 
 -- below it, the mirror
 abbrev pub answered_below : ℕ → Bounds → Entry → Verdict
 answered_below k b e =
-    cond (nat_lt (rank_of e.answer k) (rank_of b.floor k)) (Pair (footing b.floor_footing) e) (Move (lowered k e b))
+    cond (nat_lt (rank_of e.answer k) (rank_of b.floor.at k)) (Pair (footing b.floor.footing) e) (Move (lowered k e b))
 
 -- what level k makes of a question e with its answer
 abbrev pub judged : ℕ → Level → Entry → Verdict

@@ -1,5 +1,5 @@
 -- What the machine's state means, and what its calls do to it.
-use Rattle.std.specs.Prelude.{ℕ, suc, min, max, cond, List, length, take, drop, nat_lt}
+use Rattle.std.specs.Prelude.{ℕ, suc, min, max, cond, List, length, drop, nat_lt}
 use Rattle.bisection.specs.Judge.{Decision}
 use Rattle.bisection.specs.Levels.{opened}
 use Rattle.bisection.specs.declared.bounds.Bounds.{Bounds}
@@ -10,7 +10,7 @@ use Rattle.bisection.specs.declared.verdict.Next.TheVariants.{Settled, Pair, Que
 
 -- the levels in use, the innermost first
 abbrev pub levels_of : Levels → List Level
-levels_of s = take s.dims s.at
+levels_of s = s.at.items
 
 -- a number of coordinates, brought into 1 to 8
 abbrev pub in_range : ℕ → ℕ

@@ -13,7 +13,7 @@ use Rattle.bisection.specs.declared.bounds.Bounds.{Bounds}
 
 -- e was put in this search, or is a footing of its box
 abbrev pub WasPut : Bounds → Ran → Entry → Type 0
-WasPut box r e = Among e r.entries ⊎ ((box.floor_footing ≡ Some e) ⊎ (box.roof_footing ≡ Some e))
+WasPut box r e = Among e r.entries ⊎ ((box.floor.footing ≡ Some e) ⊎ (box.roof.footing ≡ Some e))
 
 -- two entries that were put and that F answers so: the lower question is answered higher in coordinate k
 pub record Contradiction (F : Meaning) (box : Bounds) (r : Ran) (low high : Entry) (k : ℕ) : Type 0 where

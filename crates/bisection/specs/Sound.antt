@@ -27,8 +27,8 @@ pub record Sound (F : Meaning) (sizes : List ℕ) (d : ℕ) (box : Bounds) : Typ
   pub most : d ≤ 8
   pub unused : (i : ℕ) → d ≤ i → i < 8 → size_of sizes i ≡ 1
   pub answers : (q y : List ℕ) → F q ≡ Ok y → is_point sizes y ≡ true
-  pub floor_point : is_point sizes box.floor ≡ true
-  pub roof_point : is_point sizes box.roof ≡ true
-  pub ordered : AtMost box.floor box.roof
-  pub floor_stands : FloorStands F box.floor box.floor_footing
-  pub roof_stands : RoofStands F sizes box.roof box.roof_footing
+  pub floor_point : is_point sizes box.floor.at ≡ true
+  pub roof_point : is_point sizes box.roof.at ≡ true
+  pub ordered : AtMost box.floor.at box.roof.at
+  pub floor_stands : FloorStands F box.floor.at box.floor.footing
+  pub roof_stands : RoofStands F sizes box.roof.at box.roof.footing

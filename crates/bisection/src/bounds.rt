@@ -1,17 +1,39 @@
-// A floor and a roof, and the questions that justify them.
+// A floor and a roof, and the questions that justify them. A coordinate `k` is below eight, the number of ranks in a point; it
+// indexes those ranks and counts the levels, so a type of its own would be taken off again at each use.
 ghost use Rattle.std.specs.Prelude.{◌≡◌, ◌<◌};
-ghost use Rattle.bisection.specs.Bounds.{middle, moved, raised, lowered, footing};
+ghost use Rattle.bisection.specs.Bounds.{middle, moved, footing};
 
 use points::{Entry, Ranks};
 
-// The points from `floor` to `roof`. A footing is a question that was put, with its answer, which justifies the floor or the
-// roof; a side that never moved has none.
-#[derive(Clone, Copy)]
+// A floor or a roof. Its footing is a question that was put, with its answer, which justifies it; a side that never moved has none.
+#[derive(Clone, Copy, PartialEq, Eq, Debug, Default)]
+pub struct Side {
+    pub at: Ranks,
+    pub footing: Option<Entry>,
+}
+
+// The points from `floor` to `roof`.
+#[derive(Clone, Copy, PartialEq, Eq, Debug, Default)]
 pub struct Bounds {
-    pub floor: Ranks,
-    pub roof: Ranks,
-    pub floor_footing: Option<Entry>,
-    pub roof_footing: Option<Entry>,
+    pub floor: Side,
+    pub roof: Side,
+}
+
+impl Side {
+    // The side after a move in coordinate `k`: the question below `k`, the answer at `k`, and above `k` what stood there. This
+    // question is its footing.
+    pub(crate) fn moved(&self, k: usize, put: &Entry) -> Side
+        requires { k < 8 }
+        ensures { result ≡ moved k put.now self.now }
+    {
+        let mut at = self.at;
+        at[..k].copy_from_slice(&put.point[..k]);
+        at[k] = put.answer[k];
+        Side {
+            at,
+            footing: Some(*put),
+        }
+    }
 }
 
 impl Bounds {
@@ -20,53 +42,13 @@ impl Bounds {
         requires { k < 8 }
         ensures { result ≡ middle self.now k }
     {
-        self.floor[k] + self.roof[k].saturating_sub(self.floor[k]) / 2
+        self.floor.at[k] + self.roof.at[k].saturating_sub(self.floor.at[k]) / 2
     }
-
-    // The floor moves up to the answer in coordinate `k`, and this question is its footing.
-    pub(crate) fn raised(&self, k: usize, put: &Entry) -> Bounds
-        requires { k < 8 }
-        ensures { result ≡ raised k put.now self.now }
-    {
-        Bounds {
-            floor: moved(k, put, &self.floor),
-            floor_footing: Some(*put),
-            ..*self
-        }
-    }
-
-    // The roof moves down to it.
-    pub(crate) fn lowered(&self, k: usize, put: &Entry) -> Bounds
-        requires { k < 8 }
-        ensures { result ≡ lowered k put.now self.now }
-    {
-        Bounds {
-            roof: moved(k, put, &self.roof),
-            roof_footing: Some(*put),
-            ..*self
-        }
-    }
-}
-
-// A side after a move in coordinate `k`: the question below `k`, the answer at `k`, and above `k` what stood there.
-fn moved(k: usize, put: &Entry, side: &Ranks) -> Ranks
-    requires { k < 8 }
-    ensures { result ≡ moved k put.now side.now }
-{
-    let mut ranks = *side;
-    for i in 0..k {
-        ranks[i] = put.point[i];
-    }
-    ranks[k] = put.answer[k];
-    ranks
 }
 
 // The footing of a side that an answer contradicts. From a sound box such a side has one; zeros stand for one that is missing.
 pub(crate) fn footing(of: Option<Entry>) -> Entry
     ensures { result ≡ footing of }
 {
-    of.unwrap_or(Entry {
-        point: [0; 8],
-        answer: [0; 8],
-    })
+    of.unwrap_or_default()
 }

@@ -9,13 +9,7 @@ use crate::bounds::Bounds;
 pub fn binary_digits(width: u64) -> u64
     ensures { result ≡ binary_digits width }
 {
-    let mut rest = width;
-    let mut digits = 0;
-    while rest > 0 {
-        rest /= 2;
-        digits += 1;
-    }
-    digits
+    u64::from(u64::BITS - width.leading_zeros())
 }
 
 // The most questions that a search of `bounds` in the first `dims` coordinates can put: the product of the binary digits of its
@@ -26,8 +20,8 @@ pub fn most_questions(bounds: &Bounds, dims: usize) -> u64
     ensures enough { EnoughSuffices }
 {
     let mut most = 1;
-    for k in 0..dims.min(8) {
-        let width = u64::from(bounds.roof[k].saturating_sub(bounds.floor[k])) + 1;
+    for (floor, roof) in bounds.floor.at.iter().zip(&bounds.roof.at[..dims.min(8)]) {
+        let width = u64::from(roof.saturating_sub(*floor)) + 1;
         most *= binary_digits(width);
     }
     most

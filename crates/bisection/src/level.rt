@@ -9,7 +9,7 @@ use points::Entry;
 use std::cmp::Ordering;
 
 // Level k searches coordinate k, with the coordinates above it held at the middles of the levels above.
-#[derive(Clone, Copy)]
+#[derive(Clone, Copy, Default)]
 pub struct Level {
     pub bounds: Bounds,
     pub middle: u32,
@@ -35,20 +35,26 @@ impl Level {
         let bounds = &self.bounds;
         match put.answer[k].cmp(&self.middle) {
             Ordering::Equal => Verdict::Up,
-            Ordering::Greater if put.answer[k] > bounds.roof[k] => {
+            Ordering::Greater if put.answer[k] > bounds.roof.at[k] => {
                 Verdict::Pair {
                     low: *put,
-                    high: footing(bounds.roof_footing),
+                    high: footing(bounds.roof.footing),
                 }
             }
-            Ordering::Greater => Verdict::Move(bounds.raised(k, put)),
-            Ordering::Less if put.answer[k] < bounds.floor[k] => {
+            Ordering::Greater => Verdict::Move(Bounds {
+                floor: bounds.floor.moved(k, put),
+                ..*bounds
+            }),
+            Ordering::Less if put.answer[k] < bounds.floor.at[k] => {
                 Verdict::Pair {
-                    low: footing(bounds.floor_footing),
+                    low: footing(bounds.floor.footing),
                     high: *put,
                 }
             }
-            Ordering::Less => Verdict::Move(bounds.lowered(k, put)),
+            Ordering::Less => Verdict::Move(Bounds {
+                roof: bounds.roof.moved(k, put),
+                ..*bounds
+            }),
         }
     }
 }

@@ -1,14 +1,14 @@
 // The state of a search between two answers: a level for each coordinate in use.
-ghost use Rattle.std.specs.Prelude.{◌≡◌, ◌≤◌, length};
+ghost use Rattle.std.specs.Prelude.{◌≤◌};
+ghost use Rattle.arrayvec.specs.ArrayVec.{array_vec_len};
 
 use crate::level::Level;
+use arrayvec::ArrayVec;
 
-// Level k, counted from 0, stands at `at[k]` for k below `dims`; the rest of the array is not in use.
+// Level k, counted from 0, stands at `at[k]`, and the last is the outermost.
 #[derive(Drop)]
 pub struct Levels {
-    pub(crate) at: [Level; 8],
-    pub(crate) dims: usize,
-    ghost eight: { length at ≡ 8 },
-    ghost some: { 1 ≤ dims },
-    ghost most: { dims ≤ 8 },
+    pub(crate) at: ArrayVec<Level, 8>,
+    ghost some: { 1 ≤ array_vec_len at },
+    ghost most: { array_vec_len at ≤ 8 },
 }

@@ -13,7 +13,7 @@ mod machine;
 pub mod theorems;
 mod verdict;
 
-pub use bounds::Bounds;
+pub use bounds::{Bounds, Side};
 pub use digits::{binary_digits, most_questions};
 pub use level::Level;
 pub use levels::Levels;

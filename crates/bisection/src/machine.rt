@@ -8,6 +8,7 @@ use crate::bounds::Bounds;
 use crate::level::Level;
 use crate::levels::Levels;
 use crate::verdict::{Next, Verdict};
+use arrayvec::ArrayVec;
 use points::{Entry, Ranks};
 
 impl Levels {
@@ -15,17 +16,12 @@ impl Levels {
     pub fn open(bounds: &Bounds, dims: usize) -> Levels
         ensures { levels_of result ≡ opened bounds.now (in_range dims) [] }
     {
-        let dims = dims.max(1).min(8);
-        let level = Level {
-            bounds: *bounds,
-            middle: 0,
-        };
-        let mut levels = Levels {
-            at: [level; 8],
-            dims,
-        };
-        levels.reopen(dims - 1, bounds);
-        levels
+        let mut at = ArrayVec::new();
+        // to collect them would be a call that can fail
+        for k in 0..dims.clamp(1, 8) {
+            at.push(Level::within(*bounds, k));
+        }
+        Levels { at }
     }
 
     // The question: the middles of all levels, and rank 0 in the coordinates that are not in use.
@@ -33,8 +29,8 @@ impl Levels {
         ensures { result ≡ question (levels_of self.now) }
     {
         let mut ranks = [0; 8];
-        for k in 0..self.dims {
-            ranks[k] = self.at[k].middle;
+        for (k, level) in self.at.iter().enumerate() {
+            ranks[k] = level.middle;
         }
         ranks
     }
@@ -43,25 +39,24 @@ impl Levels {
     pub fn judge(&self, k: usize, put: &Entry) -> Verdict
         ensures { result ≡ verdict k (drop k (levels_of self.now)) put.now }
     {
-        if k < self.dims {
-            self.at[k].judge(k, put)
-        } else {
-            Verdict::Settled
+        match self.at.get(k) {
+            Some(level) => level.judge(k, put),
+            None => Verdict::Settled,
         }
     }
 
-    // Level `k` goes on with new bounds, and each level below copies those of the level just above it. Without a level `k`
-    // nothing changes.
+    // Level `k` goes on with new bounds, and each level below copies those of the level just above it, so all take the same.
+    // Without a level `k` nothing changes.
     pub fn reopen(&mut self, k: usize, bounds: &Bounds)
         ensures { levels_of self.new ≡ reopened k bounds.now (levels_of self.old) }
     {
-        if k >= self.dims {
+        if k >= self.at.len() {
             return;
         }
-        self.at[k] = Level::within(*bounds, k);
-        for j in (0..k).rev() {
-            let above = self.at[j + 1].bounds;
-            self.at[j] = Level::within(above, j);
+        for (j, level) in self.at.iter_mut().enumerate() {
+            if j <= k {
+                *level = Level::within(*bounds, j);
+            }
         }
     }
 
@@ -74,11 +69,10 @@ impl Levels {
             point: self.question(),
             answer,
         };
-        let mut k = 0;
-        loop {
-            match self.judge(k, &put) {
+        for (k, level) in self.at.iter().enumerate() {
+            match level.judge(k, &put) {
                 Verdict::Settled => return Next::Settled,
-                Verdict::Up => k += 1,
+                Verdict::Up => {}
                 Verdict::Pair { low, high } => return Next::Pair {
                     low,
                     high,
@@ -90,5 +84,6 @@ impl Levels {
                 }
             }
         }
+        Next::Settled
     }
 }

@@ -1,28 +1,13 @@
 -- Lists of letters step by step, and the laws of the grade chain.
-use Rattle.std.specs.Prelude.{◌≡◌, ℕ, zero, suc, ◌+◌, ◌<◌, ◌≤◌, Bool, true, false, cond, ◌&&◌, ltb, ◌≢◌, List, [], ◌∷◌, length, drop, is_some, Some, None, Option, ◌==◌, nat_lt, slice_index, refl}
-use Rattle.std.proofs.Common.{sym, ap, ◌∙◌, ⊎_elim, add-zero, zero-add, add-one, arith}
+use Rattle.std.specs.Prelude.{◌≡◌, ℕ, zero, suc, ◌+◌, ◌<◌, ◌≤◌, Bool, true, false, cond, ltb, List, [], ◌∷◌, length, is_some, Some, None, Option, ◌==◌, nat_lt, refl}
+use Rattle.std.proofs.Common.{sym, ap, ◌∙◌, ⊎_elim, add-zero, zero-add, arith}
 use Rattle.std.specs.List.{slice_get}
-use Rattle.std.proofs.lemmas.List.{drop_more, length-take-le}
+use Rattle.std.proofs.lemmas.List.{length-take-le}
 use Rattle.std.proofs.lemmas.Option.{slice_get-get_or, slice_get_past}
-use Rattle.std.proofs.lemmas.Bool.{eq-eqb, ne_eqb, eqb-true, lt-ltb, le-ltb, ltb-true, le-leb, cond-true, cond-false, and_parts, and_left, not-true, both_ways, cases_lt}
+use Rattle.std.proofs.lemmas.Bool.{eq-eqb, eqb-true, lt-ltb, le-ltb, ltb-true, le-leb, cond-true, and_parts, not-true, both_ways, cases_lt}
 use Rattle.chains.specs.Order.{OrderLaws}
 use Rattle.chains.specs.GradeOrder.{grade_order, grades_fault, listed}
 use Rattle.chains.specs.Letters.{place_from, place_of, capitals, different}
-
--- the letter stands at i, so the search for it ends there
-pub place_here : (xs : List ℕ) (i v : ℕ) → i < length xs → slice_index xs i ≡ v → place_from i (drop i xs) v ≡ Some i
-place_here xs i v h e = rw (drop_more xs i 0 h) (cond-true _ _ _ (eq-eqb _ _ e))
-
--- it does not, so the search goes on
-pub place_next : (xs : List ℕ) (i v : ℕ) → i < length xs → slice_index xs i ≢ v → place_from i (drop i xs) v ≡ place_from (i + 1) (drop (i + 1) xs) v
-place_next xs i v h n = rw (drop_more xs i 0 h, add-one) (cond-false _ _ _ (ne_eqb _ _ n))
-
--- a test of every letter ends at the first that fails, and goes on at one that passes
-pub every_stops : (f : List ℕ → Bool) (t : ℕ → List ℕ → Bool) → ((x : ℕ) (xs : List ℕ) → f (x ∷ xs) ≡ (t x xs && f xs)) → (xs : List ℕ) (i : ℕ) → i < length xs → t (slice_index xs i) (drop (i + 1) xs) ≡ false → f (drop i xs) ≡ false
-every_stops f t step xs i h e = ap f (drop_more xs i 0 h) ∙ step _ _ ∙ and_left _ _ e
-
-pub every_goes : (f : List ℕ → Bool) (t : ℕ → List ℕ → Bool) → ((x : ℕ) (xs : List ℕ) → f (x ∷ xs) ≡ (t x xs && f xs)) → (xs : List ℕ) (i : ℕ) → i < length xs → t (slice_index xs i) (drop (i + 1) xs) ≡ true → f (drop i xs) ≡ f (drop (i + 1) xs)
-every_goes f t step xs i h e = ap f (drop_more xs i 0 h) ∙ step _ _ ∙ ap (λ b. b && f (drop (i + 1) xs)) e
 
 -- nothing is found in an empty list
 nowhere : {P : Type 0} (o : Option ℕ) (v : ℕ) → o ≡ None → o ≡ Some v → P

@@ -6,3 +6,4 @@ pub mod TickOrder
 pub mod LetterLaws
 pub mod TickLaws
 pub mod Guarded
+pub mod Through

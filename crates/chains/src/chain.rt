@@ -10,14 +10,17 @@ pub trait Chain: Sized {
     // The letter by which output tells what kind of chain it is.
     const KIND: char;
 
-    // The code of that letter.
-    ghost kind_code: { ℕ };
+    // Its code.
+    ghost KIND: { ℕ };
 
     // Its size, the member at a rank, the rank of a value.
     ghost order: { Order Self Self.Value };
 
     fn kind_letter() -> char
-        ensures { result ≡ kind_code };
+        ensures { result ≡ KIND }
+    {
+        Self::KIND
+    }
 
     // How many members there are.
     fn size(&self) -> u32

@@ -3,21 +3,22 @@ pub mod letters;
 
 ghost use Rattle.std.specs.Prelude.{◌≡◌};
 ghost use Rattle.chains.specs.GradeOrder.{grade_order, grades_fault, listed};
-ghost use Rattle.chains.specs.Letters.{capitals, different, is_capital, place_of};
+ghost use Rattle.chains.specs.Letters.{capitals, different, place_of};
 ghost use Rattle.chains.specs.Making.{Made};
 ghost use Rattle.chains.specs.LetterLaws.{grade_laws};
 
 use crate::chain::Chain;
 pub use letters::Grades;
+use thiserror::Error;
 
 // Why there is no such grade chain.
-#[derive(Clone, Copy, PartialEq, Eq, Debug)]
+#[derive(Clone, Copy, PartialEq, Eq, Debug, Error)]
 pub enum GradesFault {
-    // there is no letter, or there are more than eight
+    #[error("there is no grade, or there are more than eight")]
     Count,
-    // a byte is no capital letter
+    #[error("a grade is no capital letter")]
     Capital,
-    // a letter comes twice
+    #[error("a grade comes twice")]
     Repeated,
 }
 
@@ -25,40 +26,22 @@ pub enum GradesFault {
 fn place_of(letters: &[u8], letter: u8) -> Option<usize>
     ensures { result ≡ place_of letters.now letter }
 {
-    for (i, listed) in letters.iter().enumerate() {
-        if *listed == letter {
-            return Some(i);
-        }
-    }
-    None
-}
-
-fn is_capital(letter: u8) -> bool
-    ensures { result ≡ is_capital letter }
-{
-    letter >= b'A' && letter <= b'Z'
+    letters.iter().position(|listed| *listed == letter)
 }
 
 fn are_capitals(letters: &[u8]) -> bool
     ensures { result ≡ capitals letters.now }
 {
-    for letter in letters {
-        if !is_capital(*letter) {
-            return false;
-        }
-    }
-    true
+    letters.iter().all(|letter| letter.is_ascii_uppercase())
 }
 
 fn are_different(letters: &[u8]) -> bool
     ensures { result ≡ different letters.now }
 {
-    for i in 0..letters.len() {
-        if place_of(&letters[i + 1..], letters[i]).is_some() {
-            return false;
-        }
+    match letters.split_first() {
+        Some((first, rest)) => place_of(rest, *first).is_none() && are_different(rest),
+        None => true,
     }
-    true
 }
 
 impl Grades {
@@ -76,13 +59,18 @@ impl Grades {
             return Err(GradesFault::Repeated);
         }
         let mut held = [0; 8];
-        for (i, letter) in letters.iter().enumerate() {
-            held[i] = *letter;
-        }
+        held[..letters.len()].copy_from_slice(letters);
         Ok(Grades {
             letters: held,
             count: letters.len(),
         })
+    }
+
+    // The letters, low first.
+    fn listed(&self) -> &[u8]
+        ensures { result.now ≡ listed self.now }
+    {
+        &self.letters[..self.count]
     }
 }
 
@@ -91,33 +79,22 @@ impl Chain for Grades {
 
     const KIND: char = 'G';
 
-    ghost kind_code = { 71 };
+    ghost KIND = { 71 };
 
     ghost order = { grade_order };
 
     ghost order_laws = { grade_laws };
-
-    fn kind_letter() -> char {
-        Self::KIND
-    }
 
     fn size(&self) -> u32 {
         self.count as u32
     }
 
     fn member(&self, rank: u32) -> Option<u8> {
-        let place = rank as usize;
-        if place < self.count {
-            Some(self.letters[place])
-        } else {
-            None
-        }
+        self.listed().get(rank as usize).copied()
     }
 
     fn rank(&self, value: u8) -> Option<u32> {
-        match place_of(&self.letters[0..self.count], value) {
-            Some(place) => Some(place as u32),
-            None => None,
-        }
+        let place = place_of(self.listed(), value)?;
+        Some(place as u32)
     }
 }

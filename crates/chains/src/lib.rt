@@ -3,8 +3,10 @@
 
 pub mod chain;
 pub mod grades;
+pub mod over;
 pub mod ticks;
 
 pub use chain::Chain;
 pub use grades::{Grades, GradesFault};
+pub use over::Over;
 pub use ticks::{Ticks, TicksFault};

@@ -8,13 +8,14 @@ ghost use Rattle.chains.specs.TickLaws.{tick_laws};
 
 use crate::chain::Chain;
 pub use steps::Ticks;
+use thiserror::Error;
 
 // Why there is no such tick chain.
-#[derive(Clone, Copy, PartialEq, Eq, Debug)]
+#[derive(Clone, Copy, PartialEq, Eq, Debug, Error)]
 pub enum TicksFault {
-    // the step is not from 1 to 1,000
+    #[error("the step of a tick chain is not from 1 to 1,000 microseconds")]
     Step,
-    // the size is not from 1 to 1,000,002
+    #[error("the size of a tick chain is not from 1 to 1,000,002")]
     Size,
 }
 
@@ -38,15 +39,11 @@ impl Chain for Ticks {
 
     const KIND: char = 'T';
 
-    ghost kind_code = { 84 };
+    ghost KIND = { 84 };
 
     ghost order = { tick_order };
 
     ghost order_laws = { tick_laws };
-
-    fn kind_letter() -> char {
-        Self::KIND
-    }
 
     fn size(&self) -> u32 {
         self.size

@@ -1,14 +1,8 @@
 -- A map of one grade coordinate that faults at every point.
 use Rattle.std.specs.Prelude.{◌≡◌, ℕ, List, [], ◌∷◌, Err}
-use Rattle.chains.specs.GradeOrder.{grade_order}
-use Rattle.chains.specs.Order.{Order}
 use Rattle.points.specs.Points.{at_points}
 use Rattle.maps.specs.Rules.{Rules}
-use Rattle.maps.specs.Through.{through}
 use Rattle.map_trials.specs.declared.broken.state.Broken.{Broken}
-
-abbrev pub broken_order : Order Broken ℕ
-broken_order = through (λ m. m.grades) grade_order
 
 abbrev pub broken_sizes : Broken → List ℕ
 broken_sizes m = m.grades.count ∷ 1 ∷ 1 ∷ 1 ∷ 1 ∷ 1 ∷ 1 ∷ 1 ∷ []

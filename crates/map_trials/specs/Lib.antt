@@ -1,2 +1,3 @@
+pub mod BrokenLaws
 pub mod Faulty
 pub mod Tallied

@@ -1,6 +1,8 @@
--- A panel is refused as its step and its count are.
-use Rattle.std.proofs.Common.{◌≡◌, ℕ, ◌≤◌, Bool, true, false, cond, not, Some, None, refl, ap, arith}
-use Rattle.std.proofs.lemmas.Bool.{le-leb}
+-- A panel is refused for its step as its ticks are.
+use Rattle.std.proofs.Common.{◌≡◌, ℕ, ◌≤◌, Bool, true, false, cond, not, is_ok, Some, None, Ok, Err, Result, refl, ap, arith}
+use Rattle.std.proofs.lemmas.Bool.{both_ways, le-leb}
+use Rattle.chains.specs.Making.{Made}
+use Rattle.chains.specs.declared.ticks.steps.Ticks.{Ticks}
 use Rattle.chains.specs.TickOrder.{ticks_fault, within}
 use Rattle.chains.specs.declared.ticks.TicksFault.{TicksFault}
 use Rattle.chains.specs.declared.ticks.TicksFault.TheVariants.{Step, Size}
@@ -17,15 +19,11 @@ step_at false size e fits t = refl
 step_at true size e fits t =
     let none = rw fits at t in let z : ◌≡◌ {A = ℕ} 0 1 = cc in absurd (omega arith)
 
-pub refused_step : (step size count : ℕ) (e : TicksFault) → 1 ≤ size → size ≤ 1000002 → ticks_fault step size ≡ Some e → jobs_fault step count ≡ Some PanelStep
+refused_step : (step size count : ℕ) (e : TicksFault) → 1 ≤ size → size ≤ 1000002 → ticks_fault step size ≡ Some e → jobs_fault step count ≡ Some PanelStep
 refused_step step size count e l h t =
     let out : within 1 1000 step ≡ false = step_at (within 1 1000 step) size e (inside 1 1000002 size l h) t in
     ap (λ b. cond (not b) (Some PanelStep) (cond (not (within 1 8 count)) (Some Count) None)) out
 
--- and are made where the step is in range
-made_at : (b s : Bool) → cond (not b) (Some Step) (cond (not s) (Some Size) None) ≡ None → b ≡ true
-made_at true s t = refl
-made_at false s t = let z : ◌≡◌ {A = ℕ} 0 1 = cc in absurd (omega arith)
-
-pub panel_made : (step size count : ℕ) → ticks_fault step size ≡ None → 1 ≤ count → count ≤ 8 → jobs_fault step count ≡ None
-panel_made step size count t l h = rw (made_at (within 1 1000 step) (within 1 1000002 size) t, inside 1 8 count l h)
+pub refused_ticks : (step size count : ℕ) (P : Ticks → Type 0) (r : Result Ticks TicksFault) → 1 ≤ size → size ≤ 1000002 → Made (ticks_fault step size) P r → is_ok r ≡ false → jobs_fault step count ≡ Some PanelStep
+refused_ticks step size count P (Ok ticks) l h made t = absurd (both_ways true t refl)
+refused_ticks step size count P (Err e) l h made t = refused_step step size count e l h made

@@ -9,9 +9,9 @@ releases_most : (r t : ℕ) → 1 ≤ t → releases r t ≤ r
 releases_most r t some = omega (arith, div-add-mod' r t, mul-le-mul_left (r / t) some)
 
 -- what one job takes is within bounds
-pub taken_most : (j : Job) (r : ℕ) → r ≤ 1000001 → releases r j.period * j.run ≤ 1000001000000
+pub taken_most : (j : Job) (r : ℕ) → r ≤ 4294967295 → releases r j.period * j.run ≤ 4294967295000000
 taken_most j r h =
-    mul-le (releases r j.period) j.run 1000001 1000000 (omega (arith, releases_most r j.period j.period_some)) j.run_most
+    mul-le (releases r j.period) j.run 4294967295 1000000 (omega (arith, releases_most r j.period j.period_some)) j.run_most
 
 -- a longer span has no fewer releases
 pub releases_rise : (r s t : ℕ) → 1 ≤ t → r ≤ s → releases r t ≤ releases s t

@@ -2,7 +2,7 @@
 use Rattle.std.specs.Prelude.{ℕ}
 use Rattle.chains.specs.Order.{Order}
 use Rattle.chains.specs.TickOrder.{tick_order}
-use Rattle.maps.specs.Through.{through}
+use Rattle.chains.specs.Through.{through}
 use Rattle.maps.specs.declared.jobs.panel.Jobs.{Jobs}
 
 abbrev pub job_order : Order Jobs ℕ

@@ -1,5 +1,6 @@
 -- Which numbers and which mark make a job, and which jobs make a panel.
-use Rattle.std.specs.Prelude.{ℕ, ◌+◌, max, Bool, true, false, cond, not, List, [], ◌∷◌, Some, None, Option, ◌==◌}
+use Rattle.std.specs.Prelude.{ℕ, ◌+◌, max, Bool, true, false, cond, not, List, [], ◌∷◌, Some, None, Option, Result, ◌==◌}
+use Rattle.std.specs.Option.{ok_or}
 use Rattle.chains.specs.TickOrder.{within}
 use Rattle.maps.specs.declared.jobs.job.Job.{Job}
 use Rattle.maps.specs.declared.jobs.job.Lock.{Lock}
@@ -15,6 +16,10 @@ lock_of mark =
     cond (mark == 104) (Some Inherit)
     (cond (mark == 112) (Some Plain)
     (cond (mark == 45) (Some Free) None))
+
+-- what a mark gives: its lock, or the fault of a mark
+abbrev pub lock_or_fault : ℕ → Result Lock JobFault
+lock_or_fault mark = ok_or (lock_of mark) Mark
 
 -- a mark goes with a hold; no lock has no hold
 abbrev pub marks : Option Lock → ℕ → Bool

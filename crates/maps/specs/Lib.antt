@@ -1,13 +1,12 @@
-pub mod Indexed
 pub mod JobOrder
 pub mod JobRanges
 pub mod Layers
+pub mod Moving
 pub mod Recall
 pub mod Replies
 pub mod Response
 pub mod RowsMade
 pub mod Rules
-pub mod Through
 pub mod Layered
 pub mod JobLaws
 pub mod MemoLaws

@@ -1,6 +1,6 @@
 -- A memo keeps the laws of a map, its meaning, and monotone maps monotone.
 use Rattle.std.specs.Prelude.{◌≡◌, ℕ, ◌≤◌, Bool, true, false, cond, List, [], ◌∷◌, ◌++◌, length, Some, None, Ok, Err, Option, Result, nat_lt, refl}
-use Rattle.std.proofs.Common.{ap, ◌∙◌}
+use Rattle.std.proofs.Common.{sym, ap, subst, ◌∙◌}
 use native.Mathlib.Omega.{arith}
 use Rattle.std.proofs.lemmas.Bool.{both_ways, cond-true}
 use Rattle.points.specs.Points.{Meaning, Monotone, at_points, is_point}
@@ -40,6 +40,11 @@ fresh_tells sizes F q y e = passed_answer (F q) y (answered sizes (λ p. passed 
 
 pub fresh_monotone : (sizes : List ℕ) (F : Meaning) → Monotone F → Monotone (at_points sizes (λ p. passed (F p)))
 fresh_monotone sizes F mono p q y z h ey ez = mono p q y z h (fresh_tells sizes F p y ey) (fresh_tells sizes F q z ez)
+
+pub empty_monotone : {M : Type 0} (r : Rules M) (m : Memo M) → stored m ≡ [] → Monotone (r.meaning m.map) → Monotone ((memo_rules r).meaning m)
+empty_monotone r m empty mono =
+    subst (λ es. Monotone (at_points (r.sizes m.map) (λ q. recall_or (recalled (r.sizes m.map) es q) (r.meaning m.map q)))) (sym empty)
+    (fresh_monotone (r.sizes m.map) (r.meaning m.map) mono)
 
 module _ {M : Type 0} (r : Rules M) (laws : RulesLaws r) where
   tells : Memo M → List ℕ → Result (List ℕ) Fault

@@ -1,5 +1,7 @@
 -- Memo: up to 64 questions are kept with their answers, so that each is put below but once.
-use Rattle.std.specs.Prelude.{◌≡◌, ℕ, Bool, true, false, cond, not, ◌&&◌, List, [], ◌∷◌, ◌++◌, length, take, is_some, Some, None, Ok, Err, Option, Result, nat_lt}
+use Rattle.std.specs.Prelude.{◌≡◌, ℕ, Bool, true, false, cond, not, ◌&&◌, List, [], ◌∷◌, ◌++◌, length, is_some, Some, None, Ok, Err, Option, Result, nat_lt}
+use Rattle.std.specs.List.{find}
+use Rattle.std.specs.Option.{option_map}
 use Rattle.points.specs.Points.{at_points, is_point, same_ranks}
 use Rattle.points.specs.declared.Entry.{Entry}
 use Rattle.points.specs.declared.Fault.{Fault}
@@ -13,8 +15,7 @@ answers_by sizes q e = same_ranks e.point q && is_point sizes e.answer
 
 -- the stored answer to q, if there is one that is a point
 abbrev pub recalled : List ℕ → List Entry → List ℕ → Option (List ℕ)
-recalled sizes [] q = None
-recalled sizes (e ∷ es) q = cond (answers_by sizes q e) (Some e.answer) (recalled sizes es q)
+recalled sizes es q = option_map (λ e. e.answer) (find (answers_by sizes q) es)
 
 -- what is recalled, or what the map below gives, with its faults one deeper
 abbrev pub recall_or : Option (List ℕ) → Result (List ℕ) Fault → Result (List ℕ) Fault
@@ -32,7 +33,7 @@ kept es q (Err f) = es
 
 -- what a memo has stored
 abbrev pub stored : {M : Type 0} → Memo M → List Entry
-stored m = take m.count m.entries
+stored m = m.entries.items
 
 module _ {M : Type 0} (r : Rules M) where
   -- q is a point that is not recalled, so it is put below

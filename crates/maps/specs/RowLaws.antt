@@ -8,8 +8,7 @@ use Rattle.points.specs.declared.Entry.{Entry}
 use Rattle.points.specs.declared.Fault.{Fault}
 use Rattle.points.proofs.Eight.{eight_at, eight_length}
 use Rattle.points.proofs.Guarded.{answered, faulted, no_point}
-use Rattle.maps.specs.Indexed.{all_points}
-use Rattle.maps.specs.Replies.{answer_or, listed_answer, row_size, row_sizes}
+use Rattle.maps.specs.Replies.{all_points, answer_or, listed_answer, row_size, row_sizes}
 use Rattle.maps.specs.RowsMade.{row_rules, rows_of, sizes_of}
 use Rattle.maps.specs.Rules.{RulesLaws}
 
@@ -22,7 +21,7 @@ unused_size d n i h = cond-false _ _ _ (le-ltb i d h)
 pub size_most : (d n i : ℕ) → 1 ≤ n → i < 8 → size_of (row_sizes d n) i ≤ n
 size_most d n i some h = rw (eight_at (row_size d n) i h) (grind (arith, nat_tests))
 
-size_some : (d n i : ℕ) → 1 ≤ n → i < 8 → 1 ≤ size_of (row_sizes d n) i
+pub size_some : (d n i : ℕ) → 1 ≤ n → i < 8 → 1 ≤ size_of (row_sizes d n) i
 size_some d n i some h = rw (eight_at (row_size d n) i h) (grind (arith, nat_tests))
 
 -- what a row lists is a point

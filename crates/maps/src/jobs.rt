@@ -4,34 +4,34 @@ pub mod job;
 pub mod panel;
 mod response;
 
-ghost use Rattle.std.specs.Prelude.{◌≡◌, ◌≤◌, true, length, IfOk, Some, vec_len};
+ghost use Rattle.std.specs.Prelude.{◌≡◌, ◌≤◌, IfOk, Some, vec_len};
 ghost use Rattle.chains.specs.Making.{Made};
-ghost use Rattle.points.specs.Points.{Monotone, eight, is_point};
-ghost use Rattle.maps.specs.JobOrder.{job_order};
-ghost use Rattle.maps.specs.JobRanges.{job_fault, jobs_fault, lock_of, longest};
-ghost use Rattle.maps.specs.Response.{job_rules, job_sizes, response};
-ghost use Rattle.chains.specs.TickOrder.{tick_order};
-ghost use Rattle.chains.specs.TickLaws.{tick_laws};
-ghost use Rattle.maps.specs.Layered.{through_laws};
+ghost use Rattle.points.specs.Points.{Monotone};
+ghost use Rattle.maps.specs.JobRanges.{job_fault, jobs_fault, lock_of, lock_or_fault, longest};
+ghost use Rattle.maps.specs.Response.{job_rules};
 ghost use Rattle.maps.specs.JobLaws.{job_laws};
 
 use crate::map::Map;
-use chains::{Chain, Ticks};
+use chains::{Over, Ticks};
 pub use faults::{JobFault, JobsFault};
 pub use job::{Job, Lock};
 pub use panel::Jobs;
 use points::{Fault, Ranks, is_point};
-use response::respond;
+use std::array;
 
-// The lock that a mark stands for.
-fn lock_of(mark: char) -> Option<Lock>
-    ensures { result ≡ lock_of mark }
-{
-    match mark {
-        'h' => Some(Lock::Inherit),
-        'p' => Some(Lock::Plain),
-        '-' => Some(Lock::Free),
-        _ => None,
+impl TryFrom<char> for Lock {
+    type Error = JobFault;
+
+    ghost try_from_gives = { λ mark given. given ≡ lock_or_fault mark };
+
+    // The lock that a mark stands for.
+    fn try_from(mark: char) -> Result<Lock, JobFault> {
+        match mark {
+            'h' => Ok(Lock::Inherit),
+            'p' => Ok(Lock::Plain),
+            '-' => Ok(Lock::Free),
+            _ => Err(JobFault::Mark),
+        }
     }
 }
 
@@ -52,17 +52,17 @@ impl Job {
         if hold > run {
             return Err(JobFault::Hold);
         }
-        match lock_of(mark) {
-            None => Err(JobFault::Mark),
-            Some(Lock::Free) if hold > 0 => Err(JobFault::Mark),
-            Some(lock) => Ok(Job {
-                run,
-                period,
-                limit,
-                hold,
-                lock,
-            }),
+        let lock = Lock::try_from(mark)?;
+        if lock == Lock::Free && hold > 0 {
+            return Err(JobFault::Mark);
         }
+        Ok(Job {
+            run,
+            period,
+            limit,
+            hold,
+            lock,
+        })
     }
 }
 
@@ -71,35 +71,8 @@ fn longest(jobs: &[Job]) -> u32
     ensures value { result ≡ longest jobs.now }
     ensures bound { result ≤ 1000002 }
 {
-    let mut size = 1;
-    for job in jobs {
-        size = (job.limit + 2).max(size);
-    }
-    size
-}
-
-// The sizes of the eight coordinates.
-fn sizes_of(jobs: &[Job]) -> Ranks
-    requires { length jobs.now ≤ 8 }
-    ensures { result ≡ job_sizes jobs.now }
-{
-    let mut sizes = [1; 8];
-    for (i, job) in jobs.iter().enumerate() {
-        sizes[i] = job.limit + 2;
-    }
-    sizes
-}
-
-// The answers of all jobs to the response times `ranks`.
-fn answers(jobs: &[Job], ranks: &Ranks) -> Ranks
-    requires { (length jobs.now ≤ 8) × (is_point (job_sizes jobs.now) ranks.now ≡ true) }
-    ensures { result ≡ eight (response jobs.now ranks.now) }
-{
-    let mut answer = [0; 8];
-    for i in 0..jobs.len() {
-        answer[i] = respond(jobs, ranks, i);
-    }
-    answer
+    jobs.iter()
+        .fold(1, |size: u32, job| size.max(job.limit + 2))
 }
 
 impl Jobs {
@@ -109,9 +82,7 @@ impl Jobs {
         ensures monotone { IfOk result (λ m. Monotone (job_rules.meaning m)) }
     {
         let size = longest(jobs.as_slice());
-        let Ok(ticks) = Ticks::new(step, size) else {
-            return Err(JobsFault::Step);
-        };
+        let ticks = Ticks::new(step, size).map_err(|_| JobsFault::Step)?;
         if jobs.len() < 1 || jobs.len() > 8 {
             return Err(JobsFault::Count);
         }
@@ -119,31 +90,13 @@ impl Jobs {
     }
 }
 
-impl Chain for Jobs {
-    type Value = u32;
+impl Over for Jobs {
+    type Base = Ticks;
 
-    const KIND: char = 'T';
+    ghost base = { λ m. m.ticks };
 
-    ghost kind_code = { 84 };
-
-    ghost order = { job_order };
-
-    ghost order_laws = { through_laws (λ m. m.ticks) tick_order tick_laws };
-
-    fn kind_letter() -> char {
-        Self::KIND
-    }
-
-    fn size(&self) -> u32 {
-        self.ticks.size()
-    }
-
-    fn member(&self, rank: u32) -> Option<u32> {
-        self.ticks.member(rank)
-    }
-
-    fn rank(&self, value: u32) -> Option<u32> {
-        self.ticks.rank(value)
+    fn base(&self) -> &Ticks {
+        &self.ticks
     }
 }
 
@@ -157,12 +110,12 @@ impl Map for Jobs {
     }
 
     fn sizes(&self) -> Ranks {
-        sizes_of(self.jobs.as_slice())
+        array::from_fn(|i| self.size_at(i))
     }
 
     fn put(&mut self, question: Ranks) -> Result<Ranks, Fault> {
         if is_point(&self.sizes(), &question) {
-            Ok(answers(self.jobs.as_slice(), &question))
+            Ok(self.answers(&question))
         } else {
             Err(Fault::OUTSIDE)
         }

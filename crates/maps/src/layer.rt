@@ -9,7 +9,7 @@ pub(crate) fn deeper(fault: Fault) -> Fault
     ensures { result ≡ deeper fault }
 {
     Fault {
-        cause: fault.cause,
         depth: fault.depth.saturating_add(1),
+        ..fault
     }
 }

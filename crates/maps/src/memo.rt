@@ -2,43 +2,31 @@
 pub mod store;
 
 ghost use Rattle.std.specs.Prelude.{◌≡◌, []};
+ghost use Rattle.std.specs.List.{find};
+ghost use Rattle.std.specs.Option.{option_copied};
 ghost use Rattle.points.specs.Points.{Monotone};
-ghost use Rattle.maps.specs.Recall.{answers_by, memo_rules, recalled, stored, stored_with};
-ghost use Rattle.maps.specs.Through.{through};
-ghost use Rattle.maps.specs.Layered.{through_laws};
+ghost use Rattle.maps.specs.Recall.{answers_by, memo_rules, stored, stored_with};
 ghost use Rattle.maps.specs.MemoLaws.{memo_laws};
 
 use crate::layer::deeper;
 use crate::map::Map;
-use chains::Chain;
-use points::{Entry, Fault, Ranks, is_point, same_ranks};
+use arrayvec::ArrayVec;
+use chains::Over;
+use points::{Entry, Fault, Ranks, is_point};
 pub use store::Memo;
-
-// How many answers a memo stores.
-const ROOM: usize = 64;
-
-const BLANK: Entry = Entry {
-    point: [0; 8],
-    answer: [0; 8],
-};
 
 // Whether an entry answers a question, by a point.
 fn answers(entry: &Entry, sizes: &Ranks, question: &Ranks) -> bool
     ensures { result ≡ answers_by sizes.now question.now entry.now }
 {
-    same_ranks(&entry.point, question) && is_point(sizes, &entry.answer)
+    entry.point == *question && is_point(sizes, &entry.answer)
 }
 
-// The stored answer to a question, if there is one that is a point.
-fn recall(entries: &[Entry], sizes: &Ranks, question: &Ranks) -> Option<Ranks>
-    ensures { result ≡ recalled sizes.now entries.now question.now }
+// The first stored entry that answers a question, if there is one.
+fn recall<'a>(entries: &'a [Entry], sizes: &Ranks, question: &Ranks) -> Option<&'a Entry>
+    ensures { option_copied result ≡ find (answers_by sizes.now question.now) entries.now }
 {
-    for entry in entries {
-        if answers(entry, sizes, question) {
-            return Some(entry.answer);
-        }
-    }
-    None
+    entries.iter().find(|entry| answers(entry, sizes, question))
 }
 
 impl<M: Map> Memo<M> {
@@ -50,8 +38,7 @@ impl<M: Map> Memo<M> {
     {
         Memo {
             map,
-            entries: [BLANK; 64],
-            count: 0,
+            entries: ArrayVec::new(),
         }
     }
 
@@ -59,12 +46,7 @@ impl<M: Map> Memo<M> {
     pub fn into_map(self) -> M
         ensures { result ≡ self.map }
     {
-        let Memo {
-            map,
-            entries: _,
-            count: _,
-        } = self;
-        map
+        self.map
     }
 
     // Stores one more answer, if there is room.
@@ -72,38 +54,17 @@ impl<M: Map> Memo<M> {
         ensures map { self.new.map ≡ self.old.map }
         ensures keeps { stored self.new ≡ stored_with (stored self.old) entry }
     {
-        if self.count < ROOM {
-            self.entries[self.count] = entry;
-            self.count += 1;
-        }
+        let _full = self.entries.try_push(entry);
     }
 }
 
-impl<M: Map> Chain for Memo<M> {
-    type Value = M::Value;
+impl<M: Map> Over for Memo<M> {
+    type Base = M;
 
-    const KIND: char = M::KIND;
+    ghost base = { λ m. m.map };
 
-    ghost kind_code = { M.Chain.kind_code };
-
-    ghost order = { through (λ m. m.map) M.Chain.order };
-
-    ghost order_laws = { through_laws (λ m. m.map) M.Chain.order M.Chain.order_laws };
-
-    fn kind_letter() -> char {
-        M::kind_letter()
-    }
-
-    fn size(&self) -> u32 {
-        self.map.size()
-    }
-
-    fn member(&self, rank: u32) -> Option<M::Value> {
-        self.map.member(rank)
-    }
-
-    fn rank(&self, value: M::Value) -> Option<u32> {
-        self.map.rank(value)
+    fn base(&self) -> &M {
+        &self.map
     }
 }
 
@@ -125,18 +86,14 @@ impl<M: Map> Map for Memo<M> {
         if !is_point(&sizes, &question) {
             return Err(Fault::OUTSIDE);
         }
-        if let Some(answer) = recall(&self.entries[0..self.count], &sizes, &question) {
-            return Ok(answer);
+        if let Some(entry) = recall(&self.entries, &sizes, &question) {
+            return Ok(entry.answer);
         }
-        match self.map.put(question) {
-            Ok(answer) => {
-                self.store(Entry {
-                    point: question,
-                    answer,
-                });
-                Ok(answer)
-            }
-            Err(fault) => Err(deeper(fault)),
-        }
+        let answer = self.map.put(question).map_err(deeper)?;
+        self.store(Entry {
+            point: question,
+            answer,
+        });
+        Ok(answer)
     }
 }

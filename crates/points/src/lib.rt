@@ -14,13 +14,14 @@ pub const COORDINATES: usize = 8;
 pub type Ranks = [u32; 8];
 
 // A question that was put, with its answer.
-#[derive(Clone, Copy, PartialEq, Eq, Debug)]
+#[derive(Clone, Copy, PartialEq, Eq, Default, Debug)]
 pub struct Entry {
     pub point: Ranks,
     pub answer: Ranks,
 }
 
-// Why a question has no answer: a cause from 1 to 255, and how many layers passed it on, up to 255.
+// Why a question has no answer: a cause from 1 to 255, which each map numbers for itself, and how many layers passed it on, up to
+// 255.
 #[derive(Clone, Copy, PartialEq, Eq, Debug)]
 pub struct Fault {
     pub cause: u8,
@@ -36,24 +37,14 @@ impl Fault {
 pub fn is_point(sizes: &Ranks, ranks: &Ranks) -> bool
     ensures { result ≡ is_point sizes.now ranks.now }
 {
-    for i in 0..8 {
-        if ranks[i] >= sizes[i] {
-            return false;
-        }
-    }
-    true
+    ranks.iter().zip(sizes).all(|(rank, size)| rank < size)
 }
 
 // Whether two lists of eight ranks are the same.
 pub fn same_ranks(p: &Ranks, q: &Ranks) -> bool
     ensures { result ≡ same_ranks p.now q.now }
 {
-    for i in 0..8 {
-        if p[i] != q[i] {
-            return false;
-        }
-    }
-    true
+    p == q
 }
 
 // The first coordinate, counted from 0, in which `p` is above `q`: there is none exactly where `p` is at most `q`.
@@ -61,10 +52,5 @@ pub fn first_above(p: &Ranks, q: &Ranks) -> Option<usize>
     ensures value { result ≡ first_above p.now q.now }
     ensures bound { IfSome result (λ i. i < 8) }
 {
-    for i in 0..8 {
-        if p[i] > q[i] {
-            return Some(i);
-        }
-    }
-    None
+    p.iter().zip(q).position(|(a, b)| a > b)
 }

@@ -1,33 +1,18 @@
 // settle: a study of one panel's job sheet, from its first call to its last.
 #![tactic(auto)]
 
-use anyhow::anyhow;
 use chains::Chain;
 use maps::{Job, Jobs, Memo};
 use points::Entry;
 use std::alloc::Global;
-use study::{Refusal, Report, Study};
-
-const BLANK: Entry = Entry {
-    point: [0; 8],
-    answer: [0; 8],
-};
+use study::{Details, Refusal, Report, Study};
 
 // The panel: in ticks of 50 microseconds, a job of 2 ticks every 10, and below it one of 3 every 20 that holds the lock for 1.
-fn panel(heap: Global) -> anyhow::Result<Jobs> {
-    let mut jobs = Vec::new(heap);
-    let Ok(first) = Job::new(2, 10, 10, 0, '-') else {
-        return Err(anyhow!("the first job is out of range"));
-    };
-    jobs.push(first)?;
-    let Ok(second) = Job::new(3, 20, 20, 1, 'h') else {
-        return Err(anyhow!("the second job is out of range"));
-    };
-    jobs.push(second)?;
-    match Jobs::new(50, jobs) {
-        Ok(panel) => Ok(panel),
-        Err(_) => Err(anyhow!("the panel is out of range")),
-    }
+fn panel(alloc: Global) -> anyhow::Result<Jobs> {
+    let first = Job::new(2, 10, 10, 0, '-')?;
+    let second = Job::new(3, 20, 20, 1, 'h')?;
+    let jobs = vec![in alloc; first, second]?;
+    Ok(Jobs::new(50, jobs)?)
 }
 
 // One line for a reply: what was found, or why the call was refused.
@@ -43,8 +28,12 @@ fn tell(
         Ok(Report::Settled { count }) => println!(rt; "settled {count} {a} {b}")?,
         Ok(Report::Pair { count, coordinate }) => println!(rt; "pair {count} {coordinate}")?,
         Err(refusal) => {
-            let told = refusal.details();
-            let (number, a, b, count) = (told.number, told.a, told.b, told.count);
+            let Details {
+                number,
+                a,
+                b,
+                count,
+            } = refusal.details();
             println!(rt; "refused {number} {a} {b} {count}")?
         }
     }
@@ -57,7 +46,7 @@ fn main(rt: HostRuntime) -> anyhow::Result<()> {
     println!(rt; "kind {kind}")?;
     let mut study = Study::new(map, 20);
     let mut strip = [0; 32];
-    let mut record = [BLANK; 64];
+    let mut record = [Entry::default(); 64];
     let raised = study.raise(&[100, 100], &mut strip);
     tell(&rt, "raised", raised, &strip)?;
     let lowered = study.lower(&[150, 200], &mut strip);

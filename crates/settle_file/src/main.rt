@@ -20,17 +20,18 @@ fn read_block<R: Read>(input: &mut R, file: &mut Vec<u8>, room: usize) -> io::Re
     ensures { IfOk result (λ count. (count ≤ room) × (vec_len file.new ≡ vec_len file.old + count)) }
 {
     let mut block = [0; BLOCK];
-    let part = &mut block[0..room];
+    let part = &mut block[..room];
     let count = input.read(part)?;
-    file.extend_from_slice(&part[0..count])?;
+    file.extend_from_slice(&part[..count])?;
     Ok(count)
 }
 
-// The bytes of an input, but no more than are needed to tell what it is.
-fn read_file<R: Read>(heap: Global, input: &mut R) -> io::Result<Vec<u8>>
+// The bytes of an input, but no more than are needed to tell what it is. It reads by blocks, since `read_to_end` of a `take`
+// tells no bound for an input of unknown bytes.
+fn read_file<R: Read>(alloc: Global, input: &mut R) -> io::Result<Vec<u8>>
     ensures { IfOk result (λ file. vec_len file ≤ 65537) }
 {
-    let mut file = Vec::new(heap);
+    let mut file = Vec::new(alloc);
     while file.len() < MOST {
         let room = BLOCK.min(MOST - file.len());
         if read_block(input, &mut file, room)? == 0 {

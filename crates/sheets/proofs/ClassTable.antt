@@ -1,5 +1,5 @@
 -- A table of classes whose every entry is the class of its place, by one test that is computed.
-use Rattle.std.proofs.Common.{◌≡◌, ℕ, zero, suc, ◌+◌, ◌<◌, Bool, true, not, ◌&&◌, List, [], ◌∷◌, length, get_or, sym, refl, ap, ap₂, ◌==◌, ◌∙◌, le_of_suc-le-suc, not-suc-le-zero, add-zero, add-suc, suc-add, zero-add, arith}
+use Rattle.std.proofs.Common.{◌≡◌, ℕ, zero, suc, ◌+◌, ◌<◌, Bool, true, ◌&&◌, List, [], ◌∷◌, length, get_or, sym, refl, ap, ap₂, ◌==◌, ◌∙◌, le_of_suc-le-suc, not-suc-le-zero, add-zero, add-suc, suc-add, zero-add, arith}
 use Rattle.std.proofs.lemmas.Bool.{and_parts, eqb-true}
 use denote.Enum.Bare.{sameb}
 use denote.Enum.Declared.{tag_of}
@@ -56,6 +56,6 @@ tag_is Small = refl
 tag_is Minus = refl
 tag_is Other = refl
 
--- what `!=` tells of two classes
-pub told_other : (a b : Class) (r : Bool) → r ≡ not (sameb the_type a b) → r ≡ not (same_class a b)
-told_other a b r h = h ∙ ap not (ap₂ (λ m n. m == n) (tag_is a) (tag_is b))
+-- what `==` tells of two classes
+pub told_same : (a b : Class) → sameb the_type a b ≡ same_class a b
+told_same a b = ap₂ (λ m n. m == n) (tag_is a) (tag_is b)

@@ -136,3 +136,6 @@ more_counts kind each (suc lines) xs = bind (kind xs) (λ x. more_lines kind lin
 
 pub many_counts : {X : Type 0} (kind : List X → Reader X) → ((xs : List X) → Counting (kind xs)) → (lines : ℕ) → Counting (many_lines kind lines)
 many_counts kind each lines = more_counts kind each lines []
+
+-- what a reader of several steps needs
+pub ruleset counting = (bind, seq, giving, refusing, choosing, next_counts, name_counts, letters_counts, mark_counts, named_counts, numbered_counts, ends_counts, file_counts, number_line_counts, many_counts)

@@ -2,10 +2,9 @@
 use Rattle.std.proofs.Common.{◌≡◌, ℕ, suc, ◌+◌, ◌-◌, ◌<◌, ◌≤◌, min, true, false, ◌⊎◌, List, [], ◌∷◌, length, take, drop, Ok, Err, sym, refl, ap, ◌∙◌, inl, inr, arith}
 use Rattle.std.proofs.lemmas.List.{drop_all}
 use Rattle.std.proofs.lemmas.Bool.{and_from, and_left, and_right, cases_lt, cond-false, cond-true, le-ltb, lt-ltb}
-use Rattle.sheets.specs.Dues.{end_from, line_ends}
 use Rattle.sheets.specs.Forms.{Form, form_of}
-use Rattle.sheets.specs.Lines.{file_end_from, file_ends, line_from, neat, next_line, up_to}
-use Rattle.sheets.specs.Reading.{State, and_then, refuse}
+use Rattle.sheets.specs.Lines.{line_from, neat, up_to}
+use Rattle.sheets.specs.Reading.{State}
 use Rattle.sheets.specs.Words.{after_word, word_due, word_from, word_of}
 use Rattle.sheets.specs.declared.faults.Fault.TheVariants.{Text, Contents, Form as Wrong}
 
@@ -50,36 +49,3 @@ word_missing s e = from s.left e
     from : (left : List ℕ) → length left ≡ 0 → word_from left s ≡ Err (Wrong, s.line)
     from [] e = refl
     from (b ∷ bs) e = absurd (omega arith)
-
-pub line_ends_lem : (s : State) → length s.left ≡ 0 → line_ends s ≡ Ok (tt, s)
-unfolding line_ends
-line_ends_lem s e = from s.left e
-  where
-    from : (left : List ℕ) → length left ≡ 0 → end_from left s ≡ Ok (tt, s)
-    from [] e = refl
-    from (b ∷ bs) e = absurd (omega arith)
-
-pub word_over : (s : State) → 0 < length s.left → line_ends s ≡ Err (Wrong, s.line)
-unfolding line_ends
-word_over s h = from s.left h
-  where
-    from : (left : List ℕ) → 0 < length left → end_from left s ≡ Err (Wrong, s.line)
-    from [] h = absurd (omega arith)
-    from (b ∷ bs) h = refl
-
--- no line is over, or one is
-pub file_ends_lem : (s : State) → length s.rest ≡ 0 → file_ends s ≡ Ok (tt, s)
-unfolding file_ends
-file_ends_lem s e = from s.rest e
-  where
-    from : (rest : List ℕ) → length rest ≡ 0 → file_end_from rest s ≡ Ok (tt, s)
-    from [] e = refl
-    from (b ∷ bs) e = absurd (omega arith)
-
-pub line_over : (s : State) → 0 < length s.rest → file_ends s ≡ and_then (next_line s) (λ _. refuse Contents)
-unfolding file_ends
-line_over s h = from s.rest h
-  where
-    from : (rest : List ℕ) → 0 < length rest → file_end_from rest s ≡ and_then (next_line s) (λ _. refuse Contents)
-    from [] h = absurd (omega arith)
-    from (b ∷ bs) h = refl

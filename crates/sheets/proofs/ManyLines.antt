@@ -36,4 +36,4 @@ many_count {X} kind (suc lines) xs ys s s' h = by_first (kind xs s) (λ x t. man
   where
     by_first : (d : Result (X × State) Told) → ((x : X) (t : State) → more_lines kind lines (xs ++ x ∷ []) t ≡ Ok (ys, s') → length ys ≡ length (xs ++ x ∷ []) + lines) → and_then d (λ x. more_lines kind lines (xs ++ x ∷ [])) ≡ Ok (ys, s') → length ys ≡ length xs + suc lines
     by_first (Ok p) rest h = omega (arith, rest p.0 p.1 h, length_push xs p.0)
-    by_first (Err e) rest h = let z : ◌≡◌ {A = ℕ} 0 1 = cc in absurd (omega arith)
+    by_first (Err e) rest h = absurd (cc)

@@ -1,9 +1,11 @@
 -- Words of grades as points of a table.
-use Rattle.std.proofs.Common.{◌≡◌, ℕ, zero, suc, ◌+◌, ◌<◌, ◌≤◌, Bool, true, false, cond, ◌⊎◌, List, [], ◌∷◌, ◌++◌, length, get_or, drop, is_some, is_ok, is_err, Some, None, Ok, Err, Option, Result, unwrap_or, sym, refl, ap, ◌∙◌, subst, inl, inr, le_of_suc-le-suc, arith}
+use Rattle.std.proofs.Common.{◌≡◌, ℕ, zero, suc, ◌+◌, ◌<◌, ◌≤◌, Bool, true, false, cond, ◌⊎◌, List, [], ◌∷◌, ◌++◌, length, get_or, drop, is_some, Some, None, Ok, Err, Option, Result, unwrap_or, refl, ap, ◌∙◌, subst, inl, inr, le_of_suc-le-suc, arith}
 use Rattle.std.specs.List.{slice_get}
 use Rattle.std.proofs.lemmas.List.{drop_all, drop_more, length-take-le}
 use Rattle.std.proofs.lemmas.Option.{slice_get-get_or, slice_get_past}
 use Rattle.std.proofs.lemmas.Bool.{and_parts, both_ways, cases_lt, le-ltb, lt-ltb}
+use Rattle.std.specs.Option.{ok_or}
+use Rattle.std.specs.Result.{IfOk, result_or}
 use Rattle.chains.specs.GradeOrder.{listed}
 use Rattle.chains.specs.Letters.{place_of}
 use Rattle.chains.specs.declared.grades.letters.Grades.{Grades}
@@ -11,15 +13,13 @@ use Rattle.chains.specs.LetterLaws.{place_below}
 use Rattle.points.specs.Points.{is_point}
 use Rattle.points.specs.declared.Entry.{Entry}
 use Rattle.points.proofs.Eight.{eight_point}
-use Rattle.points.proofs.Guarded.{at_point}
-use Rattle.maps.specs.Replies.{answer_or, listed_answer, row_meaning, row_size, row_sizes}
+use Rattle.maps.specs.Replies.{listed_answer, row_size, row_sizes}
 use Rattle.maps.specs.RowsMade.{Holds, RowAdded, rows_of}
 use Rattle.maps.specs.declared.rows.faults.RowFault.{RowFault}
 use Rattle.maps.specs.declared.rows.table.Rows.{Rows}
-use Rattle.sheets.specs.Many.{more_lines}
-use Rattle.sheets.specs.Reading.{State, Told}
-use Rattle.sheets.specs.RowsBody.{Table, all_listed, new_point, point_of, rank_at, ranks_of, row_line, table_of}
-use Rattle.sheets.specs.declared.faults.Fault.TheVariants.{Repeated}
+use Rattle.sheets.specs.Reading.{State}
+use Rattle.sheets.specs.RowsBody.{all_listed, new_point, point_of, rank_at, ranks_of, row_line}
+use Rattle.sheets.specs.declared.faults.Unread.{Unread}
 
 -- a letter that is no grade stops the test
 pub listed_stops : (letters text : List ℕ) (i : ℕ) → i < length text → None ≡ place_of letters (get_or text i 0) → all_listed letters (drop i text) ≡ false
@@ -59,47 +59,31 @@ module _ (letters text : List ℕ) (all : all_listed letters text ≡ true) wher
 pub listed_count : (grades : Grades) → length (listed grades) ≡ grades.count
 listed_count grades = length-take-le grades.count grades.letters (omega arith)
 
-answered : (o : Option (List ℕ)) → is_ok (answer_or o) ≡ is_some o
-answered None = refl
-answered (Some y) = refl
-
--- a point is answered exactly where it is listed
-pub answered_listed : (sizes : List ℕ) (rows : List Entry) (point : List ℕ) → is_point sizes point ≡ true → is_ok (row_meaning sizes rows point) ≡ is_some (listed_answer rows point)
-answered_listed sizes rows point t = ap is_ok (at_point sizes (λ q. answer_or (listed_answer rows q)) point t) ∙ answered (listed_answer rows point)
-
 ranked_if : (grades : Grades) (text : List ℕ) (dims : ℕ) (p : List ℕ) (b : Bool) → all_listed (listed grades) text ≡ b → length text ≡ dims → Some p ≡ cond b (Some (point_of (listed grades) text)) None → is_point (row_sizes dims grades.count) p ≡ true
 ranked_if grades text dims p true t long e =
     let same : point_of (listed grades) text ≡ p = cc in
     subst (λ n. is_point (row_sizes dims n) p ≡ true) (listed_count grades) (rw (← same, ← long) (point_is (listed grades) text t))
-ranked_if grades text dims p false t long e = let z : ◌≡◌ {A = ℕ} 0 1 = cc in absurd (omega arith)
+ranked_if grades text dims p false t long e = absurd (cc)
 
 -- the ranks of as many grades as there are coordinates are a point
-pub ranked_point : (grades : Grades) (text : List ℕ) (dims : ℕ) (p : List ℕ) → length text ≡ dims → Some p ≡ ranks_of (listed grades) text → is_point (row_sizes dims grades.count) p ≡ true
+ranked_point : (grades : Grades) (text : List ℕ) (dims : ℕ) (p : List ℕ) → length text ≡ dims → Some p ≡ ranks_of (listed grades) text → is_point (row_sizes dims grades.count) p ≡ true
 ranked_point grades text dims p long e = ranked_if grades text dims p (all_listed (listed grades) text) refl long e
 
--- a point that comes for the first time, or again
+-- so are those that are not refused
+pub pointed : (grades : Grades) (text : List ℕ) (dims : ℕ) (o : Option (List ℕ)) (u : Unread) → length text ≡ dims → o ≡ ranks_of (listed grades) text → IfOk (ok_or o u) (λ p. is_point (row_sizes dims grades.count) p ≡ true)
+pointed grades text dims None u long e = tt
+pointed grades text dims (Some p) u long e = ranked_point grades text dims p long e
+
+-- a point that comes for the first time
 pub comes_new : (rows : List Entry) (point : List ℕ) (s : State) → false ≡ is_some (listed_answer rows point) → new_point rows point s ≡ Ok (tt, s)
 unfolding new_point
 comes_new rows point s e = rw (← e)
 
-pub comes_again : (rows : List Entry) (point : List ℕ) (s : State) → true ≡ is_some (listed_answer rows point) → new_point rows point s ≡ Err (Repeated, s.line)
-unfolding new_point
-comes_again rows point s e = rw (← e)
-
 -- a row that is not refused is listed
-pub added : (m : Rows) (row : Entry) (r : Result (Unit {0}) RowFault) (n : Rows) → RowAdded m row r n → false ≡ is_err r → Holds m n (rows_of m ++ row ∷ [])
-added m row (Ok tt) n h e = h.1
-added m row (Err f) n h e = absurd (both_ways true (sym e) refl)
+pub added : (m : Rows) (row : Entry) (r : Result (Unit {0}) RowFault) (n : Rows) (t : Unit {0}) (u : Unread) → RowAdded m row r n → Ok t ≡ result_or r (Err u) → Holds m n (rows_of m ++ row ∷ [])
+added m row (Ok tt) n t u h e = h.1
+added m row (Err f) n t u h e = absurd (cc)
 
 -- the same grades and coordinates make the same lines
 pub line_as : (g g' : Grades) (d d' : ℕ) (rows : List Entry) (s : State) → g ≡ g' → d ≡ d' → row_line (listed g) d rows s ≡ row_line (listed g') d' rows s
 line_as g g' d d' rows s a b = ap (λ x. row_line (listed x) d rows s) a ∙ ap (λ x. row_line (listed g') x rows s) b
-
-pub lines_as : (g g' : Grades) (d d' : ℕ) (rows rows' : List Entry) (lines : ℕ) (s : State) → g ≡ g' → d ≡ d' → rows ≡ rows' → more_lines (row_line (listed g) d) lines rows s ≡ more_lines (row_line (listed g') d') lines rows' s
-lines_as g g' d d' rows rows' lines s a b c =
-    ap (λ x. more_lines (row_line (listed x) d) lines rows s) a ∙ ap (λ x. more_lines (row_line (listed g') x) lines rows s) b
-    ∙ ap (λ x. more_lines (row_line (listed g') d') lines x s) c
-
-pub table_as : (m : Rows) (g : Grades) (d : ℕ) (s : State) → m.grades ≡ g → m.dims ≡ d → ◌≡◌ {A = Result (Table × State) Told} (Ok (record { letters = listed g; dims = d; rows = rows_of m }, s)) (Ok (table_of m, s))
-table_as m g d s a b =
-    ap (λ x. Ok (record { letters = listed x; dims = d; rows = rows_of m }, s)) (sym a) ∙ ap (λ x. Ok (record { letters = listed m.grades; dims = x; rows = rows_of m }, s)) (sym b)

@@ -93,10 +93,6 @@ up_line (b ∷ t) more due h =
     let next = next_neat (goes_on (class_of b) due) t h in
     rw (not_end_if due (eqb b 10) _ t h) (ap suc (up_line t more next.0 next.1))
 
-some_neat : (t : List ℕ) → neat true t ≡ true → 0 < length t
-some_neat [] h = absurd (both_ways false refl h)
-some_neat (b ∷ t) h = omega arith
-
 -- a written line is the next line
 pub written_line : (w : List ℕ) (ws : List (List ℕ)) (left more : List ℕ) (line : ℕ) → AllByRecursion IsWord (w ∷ ws) → next_line (record { left = left; rest = line_then (w ∷ ws) more; line = line }) ≡ Ok (tt, record { left = spaced (w ∷ ws); rest = more; line = suc line })
 unfolding next_line

@@ -36,7 +36,7 @@ read_as bytes m (Ok s) h e = let same : ◌≡◌ {A = Result Meant Told} (Ok (m
   where
     ok_same : (a b : Meant) → ◌≡◌ {A = Result Meant Told} (Ok a) (Ok b) → a ≡ b
     ok_same a b q = cc
-read_as bytes m (Err (Bad f line)) h e = let z : ◌≡◌ {A = ℕ} 0 1 = cc in omega arith
+read_as bytes m (Err (Bad f line)) h e = absurd (cc)
 read_as bytes m (Err Memory) h e = tt
 
 -- a written file whose lines are read back is parsed as what was written

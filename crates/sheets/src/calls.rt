@@ -1,14 +1,14 @@
 // Calls: what is asked of a map, line by line.
-ghost use Rattle.std.specs.Prelude.{◌≡◌, true, [], map, IfOk};
-ghost use Rattle.chains.specs.TickOrder.{within};
-ghost use Rattle.sheets.specs.CallsBody.{asked_of, call_line, call_named, calls_body, letter_value, line_values, more_values, planned_of, tick_value};
-ghost use Rattle.sheets.specs.Many.{many_lines};
+#![tactic(auto, using(crate::proofs::Readings::steps), unfolding(crate::specs::CallsBody::tick_value, crate::specs::CallsBody::letter_value, crate::specs::CallsBody::line_values, crate::specs::CallsBody::call_named, crate::specs::CallsBody::call_line, crate::specs::CallsBody::calls_body))]
+
+ghost use Rattle.std.specs.Prelude.{◌≡◌, ◌≤◌, [], IfOk};
+ghost use Rattle.sheets.specs.CallsBody.{Asked, asked_of, call_line, call_named, calls_body, letter_value, line_values, more_values, planned_of, tick_value};
 ghost use Rattle.sheets.specs.Reading.{Reader, Reads, Takes, state_of};
 
 use crate::dues::is_name;
 use crate::faults::{Fault, Unread};
+use crate::lines::{Line, lines};
 use crate::scanner::Scanner;
-use std::alloc::Global;
 
 // What may be asked, with the values of a point.
 #[derive(Drop)]
@@ -59,11 +59,11 @@ impl Value for u8 {
 }
 
 // Up to eight values.
-fn values<V: Value>(heap: Global, scanner: &mut Scanner) -> Result<Vec<V>, Unread>
+fn values<V: Value>(scanner: &mut Scanner) -> Result<Vec<V>, Unread>
     ensures { Reads (λ v. v.items) (more_values V.Value.reads 8 [] (state_of scanner.old)) result (state_of scanner.new) }
 {
-    let mut values = Vec::new(heap);
-    for _i in 0..8u32 {
+    let mut values = Vec::new(scanner.alloc);
+    for _ in 0..8u32 {
         if scanner.at_line_end() {
             return Ok(values);
         }
@@ -73,27 +73,24 @@ fn values<V: Value>(heap: Global, scanner: &mut Scanner) -> Result<Vec<V>, Unrea
 }
 
 // The values that end a line.
-fn line_values<V: Value>(heap: Global, scanner: &mut Scanner) -> Result<Vec<V>, Unread>
+fn line_values<V: Value>(scanner: &mut Scanner) -> Result<Vec<V>, Unread>
     ensures { Reads (λ v. v.items) (line_values V.Value.reads (state_of scanner.old)) result (state_of scanner.new) }
 {
-    let values = values(heap, scanner)?;
+    let values = values(scanner)?;
     scanner.line_end()?;
     Ok(values)
 }
 
 // What follows the name of a call.
-fn call_named<V: Value>(heap: Global, scanner: &mut Scanner, name: &[u8]) -> Result<Call<V>, Unread>
+fn call_named<V: Value>(scanner: &mut Scanner, name: &[u8]) -> Result<Call<V>, Unread>
     ensures { Reads asked_of (call_named V.Value.reads name.now (state_of scanner.old)) result (state_of scanner.new) }
 {
     if is_name(name, b"ask") {
-        let asked = line_values(heap, scanner)?;
-        Ok(Call::Ask(asked))
+        Ok(Call::Ask(line_values(scanner)?))
     } else if is_name(name, b"raise") {
-        let raised = line_values(heap, scanner)?;
-        Ok(Call::Raise(raised))
+        Ok(Call::Raise(line_values(scanner)?))
     } else if is_name(name, b"lower") {
-        let lowered = line_values(heap, scanner)?;
-        Ok(Call::Lower(lowered))
+        Ok(Call::Lower(line_values(scanner)?))
     } else if is_name(name, b"search") {
         scanner.line_end()?;
         Ok(Call::Search)
@@ -103,41 +100,31 @@ fn call_named<V: Value>(heap: Global, scanner: &mut Scanner, name: &[u8]) -> Res
 }
 
 // One call.
-fn call_line<V: Value>(heap: Global, scanner: &mut Scanner) -> Result<Call<V>, Unread>
-    ensures { Reads asked_of (call_line V.Value.reads (state_of scanner.old)) result (state_of scanner.new) }
-{
-    scanner.next_line()?;
-    let name = scanner.any_name()?;
-    call_named(heap, scanner, name)
-}
+impl<V: Value> Line for Call<V> {
+    ghost Meaning = { Asked V };
 
-// The calls of a file, in order.
-fn call_lines<V: Value>(
-    heap: Global,
-    scanner: &mut Scanner,
-    lines: u32,
-) -> Result<Vec<Call<V>>, Unread>
-    ensures { Reads (λ v. map asked_of v.items) (many_lines (λ _. call_line V.Value.reads) lines (state_of scanner.old)) result (state_of scanner.new) }
-{
-    let mut calls = Vec::new(heap);
-    for _i in 0..lines {
-        calls.push(call_line(heap, scanner)?)?;
+    ghost meaning = { asked_of };
+
+    ghost reads = { call_line V.Value.reads };
+
+    fn read(scanner: &mut Scanner) -> Result<Call<V>, Unread> {
+        scanner.next_line()?;
+        let name = scanner.any_name()?;
+        call_named(scanner, name)
     }
-    Ok(calls)
 }
 
-// The body of the calls, which are put to `map`.
+// The body of the calls, in `count` lines: how many questions may be put, then the calls, which are put to `map`.
 pub(crate) fn calls_body<M: Drop, V: Value>(
-    heap: Global,
     scanner: &mut Scanner,
     map: M,
-    lines: u32,
+    count: u32,
 ) -> Result<Plan<M, V>, Unread>
-    requires { within 1 200 lines ≡ true }
-    ensures read { Reads planned_of (calls_body V.Value.reads lines (state_of scanner.old)) result (state_of scanner.new) }
+    requires { 1 ≤ count }
+    ensures read { Reads planned_of (calls_body V.Value.reads count (state_of scanner.old)) result (state_of scanner.new) }
     ensures kept { IfOk result (λ p. p.map ≡ map) }
 {
     let allow = scanner.number_line(b"allow", Fault::Form, 0, 9_999_999)?;
-    let calls = call_lines(heap, scanner, lines - 1)?;
+    let calls = lines(scanner, count - 1)?;
     Ok(Plan { map, allow, calls })
 }

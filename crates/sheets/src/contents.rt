@@ -1,4 +1,6 @@
 // The contents of a file: its first three lines.
+#![tactic(auto, using(crate::proofs::Readings::steps), unfolding(crate::specs::Contents::body_named, crate::specs::Contents::body_line, crate::specs::Contents::contents))]
+
 ghost use Rattle.std.specs.Prelude.{◌≡◌, true, IfOk};
 ghost use Rattle.chains.specs.TickOrder.{within};
 ghost use Rattle.sheets.specs.Contents.{body_line, body_named, contents, counted};
@@ -27,11 +29,9 @@ fn body_named(scanner: &mut Scanner, name: &[u8]) -> Result<Body, Unread>
     ensures { Takes (λ b. b) (body_named name.now (state_of scanner.old)) result (state_of scanner.new) }
 {
     if is_name(name, b"jobs") {
-        let lines = scanner.number(2, 9)?;
-        Ok(Body::Jobs(lines))
+        Ok(Body::Jobs(scanner.number(2, 9)?))
     } else if is_name(name, b"rows") {
-        let lines = scanner.number(1, 4097)?;
-        Ok(Body::Rows(lines))
+        Ok(Body::Rows(scanner.number(1, 4097)?))
     } else {
         Err(scanner.bad(Fault::Contents))
     }

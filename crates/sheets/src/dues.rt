@@ -1,4 +1,6 @@
 // What may be due next in a line.
+#![tactic(auto, using(crate::proofs::Readings::steps), unfolding(crate::specs::Dues::any_name, crate::specs::Dues::any_number, crate::specs::Dues::any_letters, crate::specs::Dues::any_mark, crate::specs::Dues::named, crate::specs::Dues::numbered, crate::specs::Dues::number_line, crate::specs::Dues::line_ends))]
+
 ghost use Rattle.std.specs.Prelude.{◌≡◌, length, ◌==◌};
 ghost use Rattle.std.specs.Str.{bytes_eq};
 ghost use Rattle.sheets.specs.Dues.{any_letters, any_mark, any_name, any_number, line_ends, named, number_line, numbered};
@@ -15,44 +17,34 @@ pub(crate) fn is_name(text: &[u8], due: &[u8]) -> bool
 }
 
 impl<'a> Scanner<'a> {
+    // The next four differ in the form that is due: one function over it would be called by the form and say no more.
+
     // A name, whichever it is.
     pub fn any_name(&mut self) -> Result<&'a [u8], Unread>
         ensures { Takes (λ t. t.now) (any_name (state_of self.old)) result (state_of self.new) }
     {
-        match self.word()?.word.name() {
-            Some(text) => Ok(text),
-            None => Err(self.bad(Fault::Form)),
-        }
+        self.word()?.word.name().ok_or(self.bad(Fault::Form))
     }
 
     // A number, however large.
     pub fn any_number(&mut self) -> Result<u64, Unread>
         ensures { Takes (λ n. n) (any_number (state_of self.old)) result (state_of self.new) }
     {
-        match self.word()?.word.number() {
-            Some(value) => Ok(value),
-            None => Err(self.bad(Fault::Form)),
-        }
+        self.word()?.word.number().ok_or(self.bad(Fault::Form))
     }
 
     // Capital letters.
     pub fn letters(&mut self) -> Result<&'a [u8], Unread>
         ensures { Takes (λ t. t.now) (any_letters (state_of self.old)) result (state_of self.new) }
     {
-        match self.word()?.word.letters() {
-            Some(text) => Ok(text),
-            None => Err(self.bad(Fault::Form)),
-        }
+        self.word()?.word.letters().ok_or(self.bad(Fault::Form))
     }
 
     // A lock mark.
     pub fn mark(&mut self) -> Result<char, Unread>
         ensures { Takes (λ m. m) (any_mark (state_of self.old)) result (state_of self.new) }
     {
-        match self.word()?.word.mark() {
-            Some(mark) => Ok(mark),
-            None => Err(self.bad(Fault::Form)),
-        }
+        self.word()?.word.mark().ok_or(self.bad(Fault::Form))
     }
 
     // The name that is due; another has the fault `wrong`.

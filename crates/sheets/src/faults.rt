@@ -4,23 +4,25 @@ ghost use Rattle.sheets.specs.Faults.{fault_number};
 ghost use Rattle.sheets.specs.declared.faults.Unread.TheVariants.{Memory};
 
 use std::alloc::{AllocError, AllocFailed};
+use thiserror::Error;
 
-#[derive(Clone, Copy, PartialEq, Eq, Debug)]
+// Each by the number by which output tells it.
+#[derive(Clone, Copy, PartialEq, Eq, Debug, Error)]
 pub enum Fault {
-    // a byte of class other, an empty line, a blank at an edge or doubled, or no final line end
-    Text,
-    // a name in the contents that is not the one due, or a line missing or over
-    Contents,
-    // a word that is missing, over, or not of the form due
-    Form,
-    // a number outside its range
-    Range,
-    // a grade that is repeated or not listed, or too many grades
-    Grade,
-    // a row whose point came before
-    Repeated,
-    // more bytes than a file may have
-    Size,
+    #[error("a byte that no line may have, an empty line, a blank at an edge or doubled, or no final line end")]
+    Text = 20,
+    #[error("a name in the contents that is not the one due, or a line missing or over")]
+    Contents = 21,
+    #[error("a word that is missing, over, or not of the form due")]
+    Form = 22,
+    #[error("a number outside its range")]
+    Range = 23,
+    #[error("a grade that is repeated or not listed, or too many grades")]
+    Grade = 24,
+    #[error("a row whose point came before")]
+    Repeated = 25,
+    #[error("more bytes than a file may have")]
+    Size = 27,
 }
 
 impl Fault {
@@ -28,24 +30,17 @@ impl Fault {
     pub fn number(self) -> u8
         ensures { result ≡ fault_number self }
     {
-        match self {
-            Fault::Text => 20,
-            Fault::Contents => 21,
-            Fault::Form => 22,
-            Fault::Range => 23,
-            Fault::Grade => 24,
-            Fault::Repeated => 25,
-            Fault::Size => 27,
-        }
+        self as u8
     }
 }
 
 // Why a file gives no sheet.
-#[derive(Clone, Copy, PartialEq, Eq, Debug)]
+#[derive(Clone, Copy, PartialEq, Eq, Debug, Error)]
 pub enum Unread {
     // the file has this fault in this line, counted from 1; line 0 is the file as a whole
+    #[error("line {line}: {fault}")]
     Bad { fault: Fault, line: usize },
-    // there was no memory for the sheet
+    #[error("there is no memory for the sheet")]
     Memory,
 }
 

@@ -7,6 +7,7 @@ mod contents;
 mod dues;
 pub mod faults;
 mod jobs;
+mod lines;
 mod rows;
 mod scanner;
 mod sheet;

@@ -1,7 +1,8 @@
 // The body `rows`.
+#![tactic(auto, using(crate::proofs::Readings::steps), unfolding(crate::specs::RowsBody::grades_due, crate::specs::RowsBody::grades_line, crate::specs::RowsBody::point_due, crate::specs::RowsBody::new_point, crate::specs::RowsBody::row_line, crate::specs::RowsBody::rows_body))]
+
 ghost use Rattle.std.specs.Prelude.{◌≡◌, ◌≤◌, true, length, is_some, IfOk};
 ghost use Rattle.chains.specs.GradeOrder.{listed};
-ghost use Rattle.chains.specs.TickOrder.{within};
 ghost use Rattle.points.specs.Points.{is_point};
 ghost use Rattle.maps.specs.Replies.{listed_answer};
 ghost use Rattle.maps.specs.RowsMade.{rows_of, sizes_of};
@@ -14,7 +15,6 @@ use crate::scanner::Scanner;
 use chains::{Chain, Grades};
 use maps::{Map, Rows};
 use points::{Entry, Ranks};
-use std::alloc::Global;
 
 // The grades of a table, and how many coordinates it has.
 #[derive(Clone, Copy)]
@@ -28,10 +28,7 @@ fn grades(scanner: &mut Scanner) -> Result<Grades, Unread>
     ensures { Takes listed (grades_due (state_of scanner.old)) result (state_of scanner.new) }
 {
     let letters = scanner.letters()?;
-    match Grades::new(letters) {
-        Ok(grades) => Ok(grades),
-        Err(_) => Err(scanner.bad(Fault::Grade)),
-    }
+    Grades::new(letters).or(Err(scanner.bad(Fault::Grade)))
 }
 
 // `grades`, the letters, and the number of coordinates
@@ -52,11 +49,8 @@ fn ranks_of(rows: &Rows, text: &[u8]) -> Option<Ranks>
     ensures { result ≡ ranks_of (listed rows.now.grades) text.now }
 {
     let mut ranks = [0; 8];
-    for i in 0..text.len() {
-        match rows.rank(text[i]) {
-            Some(rank) => ranks[i] = rank,
-            None => return None,
-        }
+    for (i, letter) in text.iter().enumerate() {
+        ranks[i] = rows.rank(*letter)?;
     }
     Some(ranks)
 }
@@ -70,10 +64,7 @@ fn read_point(scanner: &mut Scanner, rows: &Rows) -> Result<Ranks, Unread>
     if text.len() != rows.dims() {
         return Err(scanner.bad(Fault::Form));
     }
-    match ranks_of(rows, text) {
-        Some(ranks) => Ok(ranks),
-        None => Err(scanner.bad(Fault::Grade)),
-    }
+    ranks_of(rows, text).ok_or(scanner.bad(Fault::Grade))
 }
 
 // Whether the rows list a point.
@@ -101,31 +92,26 @@ fn row_line(scanner: &mut Scanner, rows: &mut Rows) -> Result<Entry, Unread>
     Ok(Entry { point, answer })
 }
 
-// A line for each row, listed after those of `rows`.
-fn row_lines(scanner: &mut Scanner, mut rows: Rows, lines: u32) -> Result<Rows, Unread>
-    ensures read { Reads rows_of (more_lines (row_line (listed rows.grades) rows.dims) lines (rows_of rows) (state_of scanner.old)) result (state_of scanner.new) }
+// A line for each row, listed after those of `rows`. What a row may list depends on the rows before it, so it is no `Line`.
+fn row_lines(scanner: &mut Scanner, mut rows: Rows, count: u32) -> Result<Rows, Unread>
+    ensures read { Reads rows_of (more_lines (row_line (listed rows.grades) rows.dims) count (rows_of rows) (state_of scanner.old)) result (state_of scanner.new) }
     ensures kept { IfOk result (λ m. (m.grades ≡ rows.grades) × (m.dims ≡ rows.dims)) }
 {
-    for _i in 0..lines {
+    for _ in 0..count {
         let row = row_line(scanner, &mut rows)?;
         // its two points were judged above, so only memory can be wanting
-        if rows.list(row).is_err() {
-            return Err(Unread::Memory);
-        }
+        rows.list(row).or(Err(Unread::Memory))?;
     }
     Ok(rows)
 }
 
-// A table of `lines` lines: its grades, then its rows.
-pub(crate) fn rows_body(heap: Global, scanner: &mut Scanner, lines: u32) -> Result<Rows, Unread>
-    requires { within 1 4097 lines ≡ true }
-    ensures { Reads table_of (rows_body lines (state_of scanner.old)) result (state_of scanner.new) }
+// A table of `count` lines: its grades, then its rows.
+pub(crate) fn rows_body(scanner: &mut Scanner, count: u32) -> Result<Rows, Unread>
+    requires { 1 ≤ count }
+    ensures { Reads table_of (rows_body count (state_of scanner.old)) result (state_of scanner.new) }
 {
     let head = grades_line(scanner)?;
     // the number of coordinates is in its range, so only memory can be wanting
-    let Ok(table) = Rows::new(heap, head.grades, head.dims as usize) else {
-        return Err(Unread::Memory);
-    };
-    let rows = row_lines(scanner, table, lines - 1)?;
-    Ok(rows)
+    let table = Rows::new(scanner.alloc, head.grades, head.dims as usize).or(Err(Unread::Memory))?;
+    row_lines(scanner, table, count - 1)
 }

@@ -1,4 +1,6 @@
 // Reads a file line by line, and a line word by word.
+#![tactic(auto, using(crate::proofs::Readings::steps), unfolding(crate::specs::Lines::file_ends))]
+
 pub mod state;
 
 ghost use Rattle.std.specs.Prelude.{◌≡◌, ◌-◌, ◌≤◌, true, [], length, IfOk};
@@ -11,6 +13,7 @@ use crate::classes::{Class, class_of};
 use crate::faults::{Fault, Unread};
 use crate::word::Word;
 pub use state::Scanner;
+use std::alloc::Global;
 
 // A word of a file, its line, and how many bytes of the line stand before it.
 #[derive(Clone, Copy, Debug)]
@@ -25,12 +28,10 @@ fn up_to(stop: u8, bytes: &[u8]) -> usize
     ensures value { result ≡ up_to stop bytes.now }
     ensures bound { result ≤ length bytes.now }
 {
-    for (i, byte) in bytes.iter().enumerate() {
-        if *byte == stop {
-            return i;
-        }
-    }
-    bytes.len()
+    bytes
+        .iter()
+        .position(|byte| *byte == stop)
+        .unwrap_or(bytes.len())
 }
 
 // Whether a word is due after a byte of this class, none if it may not stand where it does.
@@ -48,6 +49,7 @@ fn goes_on(class: Class, due: bool) -> Option<bool>
 fn is_neat(text: &[u8]) -> bool
     ensures { result ≡ neat true text.now }
 {
+    // a loop, since no law tells what `try_fold` gives where a byte stops it
     let mut due = true;
     for byte in text {
         match goes_on(class_of(*byte), due) {
@@ -60,11 +62,12 @@ fn is_neat(text: &[u8]) -> bool
 
 impl<'a> Scanner<'a> {
     // A file with no line read yet.
-    pub fn new(file: &'a [u8]) -> Scanner<'a>
+    pub fn new(alloc: Global, file: &'a [u8]) -> Scanner<'a>
         requires { length file.now ≤ 65536 }
         ensures { state_of result ≡ record { left = []; rest = file.now; line = 0 } }
     {
         Scanner {
+            alloc,
             text: &file[0..0],
             left: &file[0..0],
             rest: file,
@@ -102,6 +105,7 @@ impl<'a> Scanner<'a> {
             });
         }
         *self = Scanner {
+            alloc: self.alloc,
             text: &rest[0..end],
             left: &rest[0..end],
             rest: &rest[end + 1..],

@@ -1,14 +1,14 @@
 // Whole sheets.
-ghost use Rattle.std.specs.Prelude.{◌≡◌, true};
-ghost use Rattle.chains.specs.TickOrder.{within};
-ghost use Rattle.sheets.specs.Contents.{counted};
+#![tactic(auto, using(crate::proofs::Readings::steps), unfolding(crate::specs::Sheets::sheet, crate::specs::Sheets::jobs_sheet, crate::specs::Sheets::rows_sheet))]
+
+ghost use Rattle.std.specs.Prelude.{◌≡◌};
 ghost use Rattle.sheets.specs.LinesTold.{ToldWithin};
 ghost use Rattle.sheets.specs.Reading.{Reads, state_of};
-ghost use Rattle.sheets.specs.Sheets.{Parses, bodies, jobs_sheet, meant_by, rows_sheet, sheet};
+ghost use Rattle.sheets.specs.Sheets.{Parses, meant_by, sheet};
 ghost use Rattle.sheets.specs.Written.{JobsReadBack, RowsReadBack};
 
 use crate::calls::{Plan, calls_body};
-use crate::contents::{Body, Contents, read_contents};
+use crate::contents::{Body, read_contents};
 use crate::faults::{Fault, Unread};
 use crate::jobs::jobs_body;
 use crate::rows::rows_body;
@@ -26,49 +26,27 @@ pub enum Sheet {
     Rows(Plan<Rows, u8>),
 }
 
-// A panel of `lines` lines, and `calls` lines of calls.
-fn jobs_sheet(heap: Global, scanner: &mut Scanner, lines: u32, calls: u32) -> Result<Sheet, Unread>
-    requires { (within 2 9 lines ≡ true) × (within 1 200 calls ≡ true) }
-    ensures { Reads meant_by (jobs_sheet lines calls (state_of scanner.old)) result (state_of scanner.new) }
-{
-    let panel = jobs_body(heap, scanner, lines)?;
-    let plan = calls_body(heap, scanner, panel, calls)?;
-    scanner.file_end()?;
-    Ok(Sheet::Jobs(plan))
-}
-
-// A table of `lines` lines, and `calls` lines of calls.
-fn rows_sheet(heap: Global, scanner: &mut Scanner, lines: u32, calls: u32) -> Result<Sheet, Unread>
-    requires { (within 1 4097 lines ≡ true) × (within 1 200 calls ≡ true) }
-    ensures { Reads meant_by (rows_sheet lines calls (state_of scanner.old)) result (state_of scanner.new) }
-{
-    let table = rows_body(heap, scanner, lines)?;
-    let plan = calls_body(heap, scanner, table, calls)?;
-    scanner.file_end()?;
-    Ok(Sheet::Rows(plan))
-}
-
-// The bodies that the contents tell, and nothing more.
-fn read_bodies(heap: Global, scanner: &mut Scanner, contents: Contents) -> Result<Sheet, Unread>
-    requires { (counted contents.body ≡ true) × (within 1 200 contents.calls ≡ true) }
-    ensures { Reads meant_by (bodies contents.body contents.calls (state_of scanner.old)) result (state_of scanner.new) }
-{
-    match contents.body {
-        Body::Jobs(lines) => jobs_sheet(heap, scanner, lines, contents.calls),
-        Body::Rows(lines) => rows_sheet(heap, scanner, lines, contents.calls),
-    }
-}
-
-// The lines of a file.
-fn read_sheet(heap: Global, scanner: &mut Scanner) -> Result<Sheet, Unread>
+// The lines of a file: its contents, a map, the calls that are put to it, and nothing more.
+fn read_sheet(scanner: &mut Scanner) -> Result<Sheet, Unread>
     ensures { Reads meant_by (sheet (state_of scanner.old)) result (state_of scanner.new) }
 {
     let contents = read_contents(scanner)?;
-    read_bodies(heap, scanner, contents)
+    let sheet = match contents.body {
+        Body::Jobs(count) => {
+            let panel = jobs_body(scanner, count)?;
+            Sheet::Jobs(calls_body(scanner, panel, contents.calls)?)
+        }
+        Body::Rows(count) => {
+            let table = rows_body(scanner, count)?;
+            Sheet::Rows(calls_body(scanner, table, contents.calls)?)
+        }
+    };
+    scanner.file_end()?;
+    Ok(sheet)
 }
 
 // The sheet that a file means, or the first fault that it has.
-pub fn parse(heap: Global, file: &[u8]) -> Result<Sheet, Unread>
+pub fn parse(alloc: Global, file: &[u8]) -> Result<Sheet, Unread>
     ensures means { Parses file.now result }
     ensures told { ToldWithin file.now result }
     ensures jobs_back { JobsReadBack file.now result }
@@ -86,6 +64,6 @@ pub fn parse(heap: Global, file: &[u8]) -> Result<Sheet, Unread>
             line: 1,
         });
     }
-    let mut scanner = Scanner::new(file);
-    read_sheet(heap, &mut scanner)
+    let mut scanner = Scanner::new(alloc, file);
+    read_sheet(&mut scanner)
 }

@@ -15,7 +15,7 @@ pub enum Word<'a> {
     // capital letters
     Letters(&'a [u8]),
     // `h`, `p` or `-` by itself
-    Mark { text: &'a [u8], code: u8 },
+    Mark { text: &'a [u8], mark: char },
     // anything else
     Mixed(&'a [u8]),
 }
@@ -24,12 +24,7 @@ pub enum Word<'a> {
 fn all_of(class: Class, text: &[u8]) -> bool
     ensures { result ≡ all_of class text.now }
 {
-    for byte in text {
-        if class_of(*byte) != class {
-            return false;
-        }
-    }
-    true
+    text.iter().all(|byte| class_of(*byte) == class)
 }
 
 // The number that digits write.
@@ -37,9 +32,10 @@ fn number_of(digits: &[u8]) -> u64
     requires { length digits.now ≤ 10 }
     ensures { result ≡ number_after 0 digits.now }
 {
+    // a loop, since a fold's closure would not know that the number stays small
     let mut number = 0;
     for digit in digits {
-        number = number * 10 + u64::from(digit.saturating_sub(48));
+        number = number * 10 + u64::from(digit.saturating_sub(b'0'));
     }
     number
 }
@@ -69,7 +65,7 @@ impl<'a> Word<'a> {
         if is_mark(text) {
             Word::Mark {
                 text,
-                code: text[0],
+                mark: char::from(text[0]),
             }
         } else if all_of(Class::Small, text) {
             Word::Name(text)
@@ -84,6 +80,8 @@ impl<'a> Word<'a> {
             Word::Mixed(text)
         }
     }
+
+    // Each form has its own look, as each takes another type out.
 
     // The text of a name.
     pub fn name(self) -> Option<&'a [u8]>
@@ -120,7 +118,7 @@ impl<'a> Word<'a> {
         ensures { result ≡ mark_of (meant self.entry) }
     {
         match self {
-            Word::Mark { text: _, code } => Some(char::from(code)),
+            Word::Mark { text: _, mark } => Some(mark),
             _ => None,
         }
     }

@@ -1,5 +1,5 @@
 -- Ranks written to cells as values, one after the other.
-use Rattle.std.proofs.Common.{◌≡◌, ℕ, zero, suc, ◌+◌, ◌-◌, ◌*◌, ◌<◌, ◌≤◌, List, [], ◌∷◌, ◌++◌, length, get_or, take, drop, set, Option, unwrap_or, sym, refl, ap, ◌∙◌, ap₂, append_assoc, arith}
+use Rattle.std.proofs.Common.{◌≡◌, ℕ, zero, suc, ◌+◌, ◌*◌, ◌<◌, ◌≤◌, List, [], ◌∷◌, ◌++◌, length, get_or, take, drop, set, Option, unwrap_or, sym, refl, ap, ◌∙◌, ap₂, append_assoc, arith}
 use Rattle.std.proofs.lemmas.List.{length-append, drop_all, drop_more, drop-set-lt, take-append-drop, take_more_set}
 use Rattle.study.specs.Values.{written}
 
@@ -26,10 +26,6 @@ written_more member (r ∷ first) more (c ∷ cells) zero e h = absurd (omega ar
 written_more member (r ∷ first) more (c ∷ cells) (suc n) e h =
     ap (λ cs. unwrap_or (member r) c ∷ cs) (written_more member first more cells n (omega arith) (omega arith))
 
--- the part of an array from its start
-pub front : (xs : List ℕ) (n : ℕ) → take (n - 0) xs ≡ take n xs
-front xs n = let s : n - 0 ≡ n = omega arith in ap (λ k. take k xs) s
-
 -- four lists of n ranks are written one after the other
 pub written_four : {V : Type 0} (member : ℕ → Option V) (a b c d : List ℕ) (cells : List V) (n : ℕ) (s₁ s₂ s₃ s₄ : List V) → length a ≡ n → length b ≡ n → length c ≡ n → 4 * n ≤ length cells → s₁ ≡ written member a cells → s₂ ≡ take n s₁ ++ written member b (drop n s₁) → s₃ ≡ take (2 * n) s₂ ++ written member c (drop (2 * n) s₂) → s₄ ≡ take (3 * n) s₃ ++ written member d (drop (3 * n) s₃) → s₄ ≡ written member (a ++ (b ++ (c ++ d))) cells
 written_four member a b c d cells n s₁ s₂ s₃ s₄ la lb lc room e₁ e₂ e₃ e₄ =
@@ -40,3 +36,10 @@ written_four member a b c d cells n s₁ s₂ s₃ s₄ la lb lc room e₁ e₂ 
     e₄ ∙ ap (λ s. take (3 * n) s ++ written member d (drop (3 * n) s)) three
     ∙ written_more member ((a ++ b) ++ c) d cells (3 * n) (length-append (a ++ b) c ∙ omega (arith, length-append a b)) (omega arith)
     ∙ ap (λ rs. written member rs cells) (append_assoc (a ++ b) c d ∙ append_assoc a b (c ++ d))
+
+-- ranks are written alike by chains with the same members
+pub written_same : {V : Type 0} (f g : ℕ → Option V) → ((k : ℕ) → f k ≡ g k) → (ranks : List ℕ) (cells : List V) → written f ranks cells ≡ written g ranks cells
+written_same f g alike [] cells = refl
+written_same f g alike (k ∷ ranks) [] = refl
+written_same f g alike (k ∷ ranks) (c ∷ cells) =
+    ap (λ o. unwrap_or o c ∷ written f ranks cells) (alike k) ∙ ap (λ cs. unwrap_or (g k) c ∷ cs) (written_same f g alike ranks cells)

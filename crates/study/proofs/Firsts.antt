@@ -1,20 +1,20 @@
--- A search for the first number that passes a test, step by step.
-use Rattle.std.proofs.Common.{◌≡◌, ℕ, suc, ◌+◌, ◌-◌, ◌<◌, ◌≤◌, Bool, true, false, Some, None, ap, ◌∙◌, add-one, arith}
-use Rattle.std.proofs.lemmas.Bool.{cond-true, cond-false}
+-- What a search over a range finds is the first number of it that passes a test.
+use Rattle.std.proofs.Common.{◌≡◌, ℕ, zero, suc, ◌+◌, ◌<◌, ◌≤◌, Bool, true, false, Some, None, Option, sym, refl, ap, ◌∙◌, inl, inr, arith}
+use Rattle.std.proofs.lemmas.Bool.{cases_lt, cond-true, cond-false}
+use Rattle.std.specs.Option.{MatchOption}
 use Rattle.study.specs.Values.{first_from}
 
-module _ (n i : ℕ) (test : ℕ → Bool) where
-  more : i < n → first_from (n - i) i test ≡ first_from (suc (n - suc i)) i test
-  more h = let s : n - i ≡ suc (n - suc i) = omega arith in ap (λ k. first_from k i test) s
-
-  -- i passes
-  pub first_here : i < n → test i ≡ true → first_from (n - i) i test ≡ Some i
-  first_here h t = more h ∙ cond-true _ _ _ t
-
-  -- i does not
-  pub first_next : i < n → test i ≡ false → first_from (n - i) i test ≡ first_from (n - (i + 1)) (i + 1) test
-  first_next h t = rw (add-one i) (more h ∙ cond-false _ _ _ t)
-
-  -- nothing is left
-  pub first_end : n ≤ i → first_from (n - i) i test ≡ None
-  first_end h = let s : n - i ≡ 0 = omega arith in ap (λ k. first_from k i test) s
+pub first_is : (n i : ℕ) (test : ℕ → Bool) (r : Option ℕ) → MatchOption r ((k : ℕ) → i ≤ k → k < i + n → test k ≡ false) (λ j. (i ≤ j) × (j < i + n) × (test j ≡ true) × ((k : ℕ) → i ≤ k → k < j → test k ≡ false)) → r ≡ first_from n i test
+first_is zero i test None h = refl
+first_is zero i test (Some j) h = absurd (omega arith)
+first_is (suc n) i test None h =
+    first_is n (suc i) test None (λ k a b. h k (omega arith) (omega arith)) ∙ sym (cond-false _ _ _ (h i (omega arith) (omega arith)))
+first_is (suc n) i test (Some j) h =
+    elim (cases_lt i j) [
+      | inl l ↦
+          first_is n (suc i) test (Some j) (l, omega arith, h.2, λ k a b. h.3 k (omega arith) b)
+          ∙ sym (cond-false _ _ _ (h.3 i (omega arith) l))
+      | inr l ↦
+          let s : j ≡ i = omega arith in
+          ap Some s ∙ sym (cond-true _ _ _ (ap test (sym s) ∙ h.2))
+    ]

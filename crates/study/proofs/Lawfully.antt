@@ -21,8 +21,8 @@ module _ {M V : Type 0} (o : Order M V) (r : Rules M) (laws : RulesLaws r) where
   -- what holds of every state that a history reaches
   pub record Reached (allowance : ℕ) (h : List (Event M V)) (t : Study M) : Type 0 where
     pub sound : Sound (r.meaning t.map) (r.sizes t.map) (r.dims t.map) t.bounds
-    pub floor_put : FootingPut (entries_of o r h) t.bounds.floor_footing
-    pub roof_put : FootingPut (entries_of o r h) t.bounds.roof_footing
+    pub floor_put : FootingPut (entries_of o r h) t.bounds.floor.footing
+    pub roof_put : FootingPut (entries_of o r h) t.bounds.roof.footing
     pub budget : t.left + spent_by o r h ≡ allowance
 
   -- every call makes a step
@@ -45,9 +45,9 @@ module _ {M V : Type 0} (o : Order M V) (r : Rules M) (laws : RulesLaws r) where
     pub goes_on : Reached allowance (e ∷ h) e.after
     goes_on = record {
       sound = sound_same r e.before.map e.after.map e.after.bounds did.same
-          (subst (Sound (r.meaning e.before.map) (r.sizes e.before.map) (r.dims e.before.map)) (sym did.box) step.sound);
-      floor_put = subst (λ (b : Bounds). FootingPut (entries_of o r (e ∷ h)) b.floor_footing) (sym did.box) (step.floor_put (entries_of o r h) reached.floor_put);
-      roof_put = subst (λ (b : Bounds). FootingPut (entries_of o r (e ∷ h)) b.roof_footing) (sym did.box) (step.roof_put (entries_of o r h) reached.roof_put);
+          (subst (Sound (r.meaning e.before.map) (r.sizes e.before.map) (r.dims e.before.map)) (sym did.box) step.steps.sound);
+      floor_put = subst (λ (b : Bounds). FootingPut (entries_of o r (e ∷ h)) b.floor.footing) (sym did.box) (step.steps.floor_put (entries_of o r h) reached.floor_put);
+      roof_put = subst (λ (b : Bounds). FootingPut (entries_of o r (e ∷ h)) b.roof.footing) (sym did.box) (step.steps.roof_put (entries_of o r h) reached.roof_put);
       budget = budget;
     }
 
@@ -56,9 +56,9 @@ module _ {M V : Type 0} (o : Order M V) (r : Rules M) (laws : RulesLaws r) where
       searched = λ is. search_law o r h e did (ap (deed o r e.before e.strip e.log) is) reached.sound reached.floor_put reached.roof_put;
       counted = counted;
       budget = budget;
-      floor = subst (λ (b : Bounds). AtMost e.before.bounds.floor b.floor) (sym did.box) step.floor;
-      roof = subst (λ (b : Bounds). AtMost b.roof e.before.bounds.roof) (sym did.box) step.roof;
-      ordered = subst (λ (b : Bounds). AtMost b.floor b.roof) (sym did.box) step.sound.ordered;
+      floor = subst (λ (b : Bounds). AtMost e.before.bounds.floor.at b.floor.at) (sym did.box) step.steps.floor;
+      roof = subst (λ (b : Bounds). AtMost b.roof.at e.before.bounds.roof.at) (sym did.box) step.steps.roof;
+      ordered = subst (λ (b : Bounds). AtMost b.floor.at b.roof.at) (sym did.box) step.steps.sound.ordered;
     }
 
   reached_made : (m : M) (allowance : ℕ) → Reached allowance [] (made r m allowance)

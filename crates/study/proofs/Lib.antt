@@ -10,5 +10,7 @@ pub mod Putting
 pub mod SearchLaw
 pub mod Searching
 pub mod Seeking
+pub mod Sided
 pub mod Stepped
+pub mod Turns
 pub mod Ways

@@ -13,7 +13,10 @@ after_before : (rs : List ℕ) (r : ℕ) (rest : Result (List ℕ) ℕ) → afte
 after_before rs r (Ok qs) = ap Ok (sym (append_assoc rs (r ∷ []) qs))
 after_before rs r (Err i) = refl
 
-module _ {V : Type 0} (rank : V → Option ℕ) (sizes : List ℕ) (values : List V) (i : ℕ) (v : V) (h : i < length values) (read : drop i values ≡ v ∷ drop (i + 1) values) where
+module _ {V : Type 0} (rank : V → Option ℕ) (sizes : List ℕ) (values : List V) (i : ℕ) (v : V) (h : i < length values) (is : v ≡ get_or values i v) where
+  read : drop i values ≡ v ∷ drop (i + 1) values
+  read = drop_more values i v h ∙ ap (λ x. x ∷ drop (i + 1) values) (sym is)
+
   -- value i has no rank that its coordinate uses
   pub rank_none : (rs : List ℕ) → None ≡ used (size_of sizes i) (rank v) → after rs (ranks_from rank sizes i (drop i values)) ≡ Err i
   rank_none rs e =

@@ -10,7 +10,7 @@ use Rattle.study.specs.Values.{first_from, first_outside, outside_at}
 
 -- a test that gave nothing failed
 none_here : (b : Bool) (i : ℕ) (rest : Option ℕ) → cond b (Some i) rest ≡ None → (b ≡ false) × (rest ≡ None)
-none_here true i rest e = let z : ◌≡◌ {A = ℕ} 0 1 = cc in absurd (omega arith)
+none_here true i rest e = absurd cc
 none_here false i rest e = (refl, e)
 
 none_above : (i : ℕ) (p q : List ℕ) → length p ≡ length q → first_above_from i p q ≡ None → AtMost p q
@@ -40,14 +40,14 @@ at_most_eight p q n h i = at (cases_lt i 8)
     at (inr l) = rw (get_or_past p i 0 (omega arith)) zero-le
 
 -- a point that is nowhere outside lies between
-pub between_from : (box : Bounds) (p : List ℕ) → length box.floor ≡ 8 → length p ≡ 8 → first_outside box p ≡ None → Between box p
+pub between_from : (box : Bounds) (p : List ℕ) → length box.floor.at ≡ 8 → length p ≡ 8 → first_outside box p ≡ None → Between box p
 between_from box p nf np e =
-    let sides : (i : ℕ) → i < 8 → (rank_of box.floor i ≤ rank_of p i) × (rank_of p i ≤ rank_of box.roof i) =
+    let sides : (i : ℕ) → i < 8 → (rank_of box.floor.at i ≤ rank_of p i) × (rank_of p i ≤ rank_of box.roof.at i) =
     λ i h.
     let s : 0 + i ≡ i = omega arith in
     let parts = or_parts _ _ (ap (outside_at box p) (sym s) ∙ none_passes 8 0 (outside_at box p) e i h) in
-    (ltb-false (rank_of p i) (rank_of box.floor i) parts.0, ltb-false (rank_of box.roof i) (rank_of p i) parts.1) in
-    (at_most_eight box.floor p nf (λ i h. (sides i h).0), at_most_eight p box.roof np (λ i h. (sides i h).1))
+    (ltb-false (rank_of p i) (rank_of box.floor.at i) parts.0, ltb-false (rank_of box.roof.at i) (rank_of p i) parts.1) in
+    (at_most_eight box.floor.at p nf (λ i h. (sides i h).0), at_most_eight p box.roof.at np (λ i h. (sides i h).1))
 
 -- what lies below a point is one
 pub point_under : (sizes p q : List ℕ) → length p ≡ 8 → AtMost p q → is_point sizes q ≡ true → is_point sizes p ≡ true

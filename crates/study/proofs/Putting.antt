@@ -1,21 +1,16 @@
 -- Putting one question: with nothing left, and with something left.
-use Rattle.std.proofs.Common.{◌≡◌, ℕ, ◌-◌, List, [], ◌∷◌, length, Err, Result, sym, refl, ap, ◌∙◌, subst, arith}
+use Rattle.std.proofs.Common.{◌≡◌, ℕ, ◌-◌, List, [], ◌∷◌, length, sym, refl, ap, subst, arith}
 use Rattle.std.proofs.lemmas.Bool.{cond-true, cond-false, eq-eqb, ne_eqb}
 use Rattle.chains.specs.Order.{Order}
-use Rattle.points.specs.declared.Fault.{Fault}
 use Rattle.maps.specs.Rules.{Rules, SameOrder, SameRules}
-use Rattle.study.specs.Calls.{answer_to, or_faulted, put_now}
+use Rattle.study.specs.Calls.{put_now}
 use Rattle.study.specs.History.{Leads}
 use Rattle.study.specs.History.Leads.{puts, stays}
 use Rattle.study.specs.Put.{PutOne}
-use Rattle.study.specs.declared.reply.Refusal.TheVariants.{Spent}
 use Rattle.study.specs.declared.state.Study.{Study}
 
 module _ {M V : Type 0} (o : Order M V) (r : Rules M) (s : Study M) (q : List ℕ) where
   -- nothing is left, so nothing moves
-  pub spent_told : s.left ≡ 0 → Err (Spent 0) ≡ answer_to r s q
-  spent_told e = sym (cond-true _ _ _ (eq-eqb s.left 0 e))
-
   pub spent_moved : s.left ≡ 0 → PutOne o r s q s
   spent_moved e =
       let none : put_now s q ≡ [] = cond-true _ _ _ (eq-eqb s.left 0 e) in
@@ -28,17 +23,13 @@ module _ {M V : Type 0} (o : Order M V) (r : Rules M) (s : Study M) (q : List �
       }
 
   -- something is left, so the question is put
-  pub put_list : (s.left ≡ 0 → ⊥) → put_now s q ≡ q ∷ []
-  put_list n = cond-false _ _ _ (ne_eqb s.left 0 n)
-
-  pub put_told : (s.left ≡ 0 → ⊥) → (b : Result (List ℕ) Fault) → b ≡ r.meaning s.map q → or_faulted b ≡ answer_to r s q
-  put_told n b e = ap or_faulted e ∙ sym (cond-false _ _ _ (ne_eqb s.left 0 n))
-
   pub put_moved : (s.left ≡ 0 → ⊥) → (t : Study M) → t.bounds ≡ s.bounds → t.left ≡ s.left - 1 → r.puts s.map q t.map → SameRules r s.map t.map → SameOrder o s.map t.map → PutOne o r s q t
-  put_moved n t box left moved same same_order = record {
-    box = box;
-    left = omega (arith, ap length (put_list n), left);
-    leads = subst (λ qs. Leads r s.map qs t.map) (sym (put_list n)) (puts moved stays);
-    same = same;
-    same_order = same_order;
-  }
+  put_moved some t box left moved same same_order =
+      let one : put_now s q ≡ q ∷ [] = cond-false _ _ _ (ne_eqb s.left 0 some) in
+      record {
+        box = box;
+        left = omega (arith, ap length one, left);
+        leads = subst (λ qs. Leads r s.map qs t.map) (sym one) (puts moved stays);
+        same = same;
+        same_order = same_order;
+      }

@@ -37,24 +37,24 @@ FootingPut es None = Unit {0}
 FootingPut es (Some e) = Among e es
 
 pub footing_put : (es : List Entry) (o : Option Entry) (e : Entry) → FootingPut es o → o ≡ Some e → Among e es
-footing_put es None e m t = let z : ◌≡◌ {A = ℕ} 0 1 = cc in absurd (omega arith)
+footing_put es None e m t = absurd cc
 footing_put es (Some x) e m t = let s : x ≡ e = cc in subst (λ y. Among y es) s m
 
 module _ {M V : Type 0} (o : Order M V) (r : Rules M) (s : Study M) (strip : List V) (log : List Entry) where
   -- which outcome a reply tells of
   settled_out : (n c : ℕ) (out : Outcome) → found_reply o r s strip log n out ≡ Ok (Settled c) → (q : List ℕ) × (out ≡ Outcome.settles q)
   settled_out n c (Outcome.settles q) e = (q, refl)
-  settled_out n c (Outcome.pairs low high k) e = let z : ◌≡◌ {A = ℕ} 0 1 = cc in absurd (omega arith)
-  settled_out n c Outcome.spent e = let z : ◌≡◌ {A = ℕ} 0 1 = cc in absurd (omega arith)
-  settled_out n c Outcome.full e = let z : ◌≡◌ {A = ℕ} 0 1 = cc in absurd (omega arith)
-  settled_out n c (Outcome.faults q f) e = let z : ◌≡◌ {A = ℕ} 0 1 = cc in absurd (omega arith)
+  settled_out n c (Outcome.pairs low high k) e = absurd cc
+  settled_out n c Outcome.spent e = absurd cc
+  settled_out n c Outcome.full e = absurd cc
+  settled_out n c (Outcome.faults q f) e = absurd cc
 
   pair_out : (n c k : ℕ) (out : Outcome) → found_reply o r s strip log n out ≡ Ok (Pair c k) → (low : Entry) × (high : Entry) × (i : ℕ) × (out ≡ Outcome.pairs low high i) × (k ≡ suc i)
-  pair_out n c k (Outcome.settles q) e = let z : ◌≡◌ {A = ℕ} 0 1 = cc in absurd (omega arith)
+  pair_out n c k (Outcome.settles q) e = absurd cc
   pair_out n c k (Outcome.pairs low high i) e = let t : k ≡ suc i = cc in (low, high, i, refl, t)
-  pair_out n c k Outcome.spent e = let z : ◌≡◌ {A = ℕ} 0 1 = cc in absurd (omega arith)
-  pair_out n c k Outcome.full e = let z : ◌≡◌ {A = ℕ} 0 1 = cc in absurd (omega arith)
-  pair_out n c k (Outcome.faults q f) e = let z : ◌≡◌ {A = ℕ} 0 1 = cc in absurd (omega arith)
+  pair_out n c k Outcome.spent e = absurd cc
+  pair_out n c k Outcome.full e = absurd cc
+  pair_out n c k (Outcome.faults q f) e = absurd cc
 
   -- with enough of both, only a fault refuses
   fault_only : (n : ℕ) (out : Outcome) → (out ≡ Outcome.spent → ⊥) → (out ≡ Outcome.full → ⊥) → ((report : Report) × (found_reply o r s strip log n out ≡ Ok report)) ⊎ ((f : Fault) × (c : ℕ) × (found_reply o r s strip log n out ≡ Err (Faulted f c)))
@@ -71,15 +71,15 @@ module _ {M V : Type 0} (o : Order M V) (r : Rules M) (h : List (Event M V)) (e 
       let reply = did.reply ∙ ap (λ (d : Deed V). d.reply) is in
       let none = ap (λ (d : Deed V). d.questions) is in
       record {
-        settled = λ c t. let z : ◌≡◌ {A = ℕ} 0 1 = cc in absurd (omega arith);
-        pair = λ c k t. let z : ◌≡◌ {A = ℕ} 0 1 = cc in absurd (omega arith);
-        monotone = λ m c k t. let z : ◌≡◌ {A = ℕ} 0 1 = cc in omega arith;
+        settled = λ c t. absurd cc;
+        pair = λ c k t. absurd cc;
+        monotone = λ m c k t. cc;
         once = subst NoneTwice (sym none) tt;
         few = omega (arith, ap length none);
         enough = λ room. absurd (omega arith);
       }
 
-  module _ (sound : Sound (r.meaning e.before.map) (r.sizes e.before.map) (r.dims e.before.map) e.before.bounds) (floor_put : FootingPut (entries_of o r h) e.before.bounds.floor_footing) (roof_put : FootingPut (entries_of o r h) e.before.bounds.roof_footing) (is : due o r e ≡ left_by o r e.before e.strip e.log (due_search r e.before e.log)) where
+  module _ (sound : Sound (r.meaning e.before.map) (r.sizes e.before.map) (r.dims e.before.map) e.before.bounds) (floor_put : FootingPut (entries_of o r h) e.before.bounds.floor.footing) (roof_put : FootingPut (entries_of o r h) e.before.bounds.roof.footing) (is : due o r e ≡ left_by o r e.before e.strip e.log (due_search r e.before e.log)) where
     abbrev F : Meaning
     F = r.meaning e.before.map
 
@@ -101,8 +101,8 @@ module _ {M V : Type 0} (o : Order M V) (r : Rules M) (h : List (Event M V)) (e 
     -- what the search put, it or an earlier call put
     was_put : (x : Entry) → WasPut e.before.bounds ran x → Among x (entries_of o r (e ∷ h))
     was_put x (inl m) = among_left x (due o r e).entries (entries_of o r h) (subst (λ es. Among x es) (sym (ap (λ (y : Deed V). y.entries) is)) m)
-    was_put x (inr (inl t)) = among_right x (due o r e).entries (entries_of o r h) (footing_put (entries_of o r h) e.before.bounds.floor_footing x floor_put t)
-    was_put x (inr (inr t)) = among_right x (due o r e).entries (entries_of o r h) (footing_put (entries_of o r h) e.before.bounds.roof_footing x roof_put t)
+    was_put x (inr (inl t)) = among_right x (due o r e).entries (entries_of o r h) (footing_put (entries_of o r h) e.before.bounds.floor.footing x floor_put t)
+    was_put x (inr (inr t)) = among_right x (due o r e).entries (entries_of o r h) (footing_put (entries_of o r h) e.before.bounds.roof.footing x roof_put t)
 
     searched_long : Searched o r h e
     searched_long = record {
@@ -142,9 +142,9 @@ module _ {M V : Type 0} (o : Order M V) (r : Rules M) (h : List (Event M V)) (e 
         at (inr x) = inr (x.0, x.1, told ∙ x.2)
 
   -- both ways
-  search_if : (b : Bool) → ltb (length e.strip) (4 * r.dims e.before.map) ≡ b → due o r e ≡ cond b (refused_after o r e.before e.strip e.log [] Strip) (left_by o r e.before e.strip e.log (due_search r e.before e.log)) → Sound (r.meaning e.before.map) (r.sizes e.before.map) (r.dims e.before.map) e.before.bounds → FootingPut (entries_of o r h) e.before.bounds.floor_footing → FootingPut (entries_of o r h) e.before.bounds.roof_footing → Searched o r h e
+  search_if : (b : Bool) → ltb (length e.strip) (4 * r.dims e.before.map) ≡ b → due o r e ≡ cond b (refused_after o r e.before e.strip e.log [] Strip) (left_by o r e.before e.strip e.log (due_search r e.before e.log)) → Sound (r.meaning e.before.map) (r.sizes e.before.map) (r.dims e.before.map) e.before.bounds → FootingPut (entries_of o r h) e.before.bounds.floor.footing → FootingPut (entries_of o r h) e.before.bounds.roof.footing → Searched o r h e
   search_if true t is sound floor_put roof_put = refused_short is (ltb-true (length e.strip) (4 * r.dims e.before.map) t)
   search_if false t is sound floor_put roof_put = searched_long sound floor_put roof_put is
 
-  pub search_law : due o r e ≡ searched_box o r e.before e.strip e.log → Sound (r.meaning e.before.map) (r.sizes e.before.map) (r.dims e.before.map) e.before.bounds → FootingPut (entries_of o r h) e.before.bounds.floor_footing → FootingPut (entries_of o r h) e.before.bounds.roof_footing → Searched o r h e
+  pub search_law : due o r e ≡ searched_box o r e.before e.strip e.log → Sound (r.meaning e.before.map) (r.sizes e.before.map) (r.dims e.before.map) e.before.bounds → FootingPut (entries_of o r h) e.before.bounds.floor.footing → FootingPut (entries_of o r h) e.before.bounds.roof.footing → Searched o r h e
   search_law is = search_if (ltb (length e.strip) (4 * r.dims e.before.map)) refl is

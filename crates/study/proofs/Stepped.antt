@@ -3,7 +3,7 @@ use Rattle.std.proofs.Common.{◌≡◌, ℕ, zero, suc, ◌-◌, ◌*◌, Bool,
 use mathlib.Core.Path.{subst₃, fun_ext}
 use Rattle.std.proofs.lemmas.List.{length-replicate}
 use Rattle.chains.specs.Order.{Order}
-use Rattle.points.specs.Points.{AtMost, Meaning, eight, is_point, rank_of, size_of}
+use Rattle.points.specs.Points.{AtMost, Meaning, eight, rank_of, size_of}
 use Rattle.points.specs.declared.Entry.{Entry}
 use Rattle.points.proofs.Eight.{eight_at, eight_length}
 use Rattle.points.proofs.Tested.{point_from}
@@ -31,78 +31,84 @@ kept_footing : (new es : List Entry) (o : Option Entry) → FootingPut es o → 
 kept_footing new es None m = tt
 kept_footing new es (Some e) m = among_right e new es m
 
+-- how a box moves to another, where these questions were answered
+pub record Steps (F : Meaning) (sizes : List ℕ) (d : ℕ) (b : Bounds) (new : List Entry) (to : Bounds) : Type 0 where
+  pub floor : AtMost b.floor.at to.floor.at
+  pub roof : AtMost to.roof.at b.roof.at
+  pub sound : Sound F sizes d to
+  pub floor_put : (es : List Entry) → FootingPut es b.floor.footing → FootingPut (new ++ es) to.floor.footing
+  pub roof_put : (es : List Entry) → FootingPut es b.roof.footing → FootingPut (new ++ es) to.roof.footing
+
 -- what a deed does to a box
 pub record Stepped {V : Type 0} (F : Meaning) (sizes : List ℕ) (d : ℕ) (b : Bounds) (D : Deed V) : Type 0 where
   pub counted : reported D.reply ≡ length D.questions
-  pub floor : AtMost b.floor D.box.floor
-  pub roof : AtMost D.box.roof b.roof
-  pub sound : Sound F sizes d D.box
-  pub floor_put : (es : List Entry) → FootingPut es b.floor_footing → FootingPut (D.entries ++ es) D.box.floor_footing
-  pub roof_put : (es : List Entry) → FootingPut es b.roof_footing → FootingPut (D.entries ++ es) D.box.roof_footing
+  pub steps : Steps F sizes d b D.entries D.box
 
--- a deed that leaves the box
-still : {V : Type 0} (F : Meaning) (sizes : List ℕ) (d : ℕ) (b : Bounds) (D : Deed V) → Sound F sizes d b → D.box ≡ b → reported D.reply ≡ length D.questions → Stepped F sizes d b D
-still F sizes d b D sound box counted = record {
-  counted = counted;
-  floor = subst (λ x. AtMost b.floor x.floor) (sym box) (at_most_refl b.floor);
-  roof = subst (λ x. AtMost x.roof b.roof) (sym box) (at_most_refl b.roof);
-  sound = subst (Sound F sizes d) (sym box) sound;
-  floor_put = λ es m. subst (λ (x : Bounds). FootingPut (D.entries ++ es) x.floor_footing) (sym box) (kept_footing D.entries es b.floor_footing m);
-  roof_put = λ es m. subst (λ (x : Bounds). FootingPut (D.entries ++ es) x.roof_footing) (sym box) (kept_footing D.entries es b.roof_footing m);
-}
+module _ (F : Meaning) (sizes : List ℕ) (d : ℕ) (b : Bounds) (sound : Sound F sizes d b) where
+  -- the box is left as it was
+  stays : (new : List Entry) → Steps F sizes d b new b
+  stays new = record {
+    floor = at_most_refl b.floor.at;
+    roof = at_most_refl b.roof.at;
+    sound = sound;
+    floor_put = λ es m. kept_footing new es b.floor.footing m;
+    roof_put = λ es m. kept_footing new es b.roof.footing m;
+  }
+
+  -- a point in the box becomes its floor, or its roof
+  moves : (e : Entry) (to : Bounds) → F e.point ≡ Ok e.answer → length e.point ≡ 8 → Moved b e to → Steps F sizes d b (e ∷ []) to
+  moves e to t n same = stays (e ∷ [])
+  moves e to t n (up between rises) = record {
+    floor = between.0;
+    roof = at_most_refl b.roof.at;
+    sound = record {
+      some = sound.some;
+      most = sound.most;
+      unused = sound.unused;
+      answers = sound.answers;
+      floor_point = point_under sizes e.point b.roof.at n between.1 sound.roof_point;
+      roof_point = sound.roof_point;
+      ordered = between.1;
+      floor_stands = (at_most_refl e.point, rises, t);
+      roof_stands = sound.roof_stands;
+    };
+    floor_put = λ es m. inl refl;
+    roof_put = λ es m. kept_footing (e ∷ []) es b.roof.footing m;
+  }
+  moves e to t n (down between falls) = record {
+    floor = at_most_refl b.floor.at;
+    roof = between.1;
+    sound = record {
+      some = sound.some;
+      most = sound.most;
+      unused = sound.unused;
+      answers = sound.answers;
+      floor_point = sound.floor_point;
+      roof_point = point_under sizes e.point b.roof.at n between.1 sound.roof_point;
+      ordered = between.0;
+      floor_stands = sound.floor_stands;
+      roof_stands = (falls, at_most_refl e.point, t);
+    };
+    floor_put = λ es m. kept_footing (e ∷ []) es b.floor.footing m;
+    roof_put = λ es m. inl refl;
+  }
 
 module _ {M V : Type 0} (o : Order M V) (r : Rules M) (laws : RulesLaws r) (s : Study M) (strip : List V) (log : List Entry) (sound : Sound (r.meaning s.map) (r.sizes s.map) (r.dims s.map) s.bounds) where
   abbrev F : Meaning
   F = r.meaning s.map
 
-  -- a point in the box becomes its floor, or its roof
-  stepped_answer : (e : Entry) (D : Deed V) (b : Bounds) → D.box ≡ b → D.entries ≡ e ∷ [] → reported D.reply ≡ length D.questions → F e.point ≡ Ok e.answer → length e.point ≡ 8 → Moved s.bounds e b → Stepped F (r.sizes s.map) (r.dims s.map) s.bounds D
-  stepped_answer e D b box entries counted t n same = still F (r.sizes s.map) (r.dims s.map) s.bounds D sound box counted
-  stepped_answer e D b box entries counted t n (up between rises) =
-      let point : is_point (r.sizes s.map) e.point ≡ true = point_under (r.sizes s.map) e.point s.bounds.roof n between.1 sound.roof_point in
-      record {
-        counted = counted;
-        floor = subst (λ (x : Bounds). AtMost s.bounds.floor x.floor) (sym box) between.0;
-        roof = subst (λ (x : Bounds). AtMost x.roof s.bounds.roof) (sym box) (at_most_refl s.bounds.roof);
-        sound = subst (Sound F (r.sizes s.map) (r.dims s.map)) (sym box) (record {
-          some = sound.some;
-          most = sound.most;
-          unused = sound.unused;
-          answers = sound.answers;
-          floor_point = point;
-          roof_point = sound.roof_point;
-          ordered = between.1;
-          floor_stands = (at_most_refl e.point, rises, t);
-          roof_stands = sound.roof_stands;
-        });
-        floor_put = λ es m. subst (λ (x : Bounds). FootingPut (D.entries ++ es) x.floor_footing) (sym box) (subst (λ new. FootingPut (new ++ es) (Some e)) (sym entries) (inl refl));
-        roof_put = λ es m. subst (λ (x : Bounds). FootingPut (D.entries ++ es) x.roof_footing) (sym box) (kept_footing D.entries es s.bounds.roof_footing m);
-      }
-  stepped_answer e D b box entries counted t n (down between falls) =
-      let point : is_point (r.sizes s.map) e.point ≡ true = point_under (r.sizes s.map) e.point s.bounds.roof n between.1 sound.roof_point in
-      record {
-        counted = counted;
-        floor = subst (λ (x : Bounds). AtMost s.bounds.floor x.floor) (sym box) (at_most_refl s.bounds.floor);
-        roof = subst (λ (x : Bounds). AtMost x.roof s.bounds.roof) (sym box) between.1;
-        sound = subst (Sound F (r.sizes s.map) (r.dims s.map)) (sym box) (record {
-          some = sound.some;
-          most = sound.most;
-          unused = sound.unused;
-          answers = sound.answers;
-          floor_point = sound.floor_point;
-          roof_point = point;
-          ordered = between.0;
-          floor_stands = sound.floor_stands;
-          roof_stands = (falls, at_most_refl e.point, t);
-        });
-        floor_put = λ es m. subst (λ (x : Bounds). FootingPut (D.entries ++ es) x.floor_footing) (sym box) (kept_footing D.entries es s.bounds.floor_footing m);
-        roof_put = λ es m. subst (λ (x : Bounds). FootingPut (D.entries ++ es) x.roof_footing) (sym box) (subst (λ new. FootingPut (new ++ es) (Some e)) (sym entries) (inl refl));
-      }
+  -- a deed that leaves the box
+  still : (D : Deed V) → D.box ≡ s.bounds → reported D.reply ≡ length D.questions → Stepped F (r.sizes s.map) (r.dims s.map) s.bounds D
+  still D box counted = record {
+    counted = counted;
+    steps = subst (Steps F (r.sizes s.map) (r.dims s.map) s.bounds D.entries) (sym box) (stays F (r.sizes s.map) (r.dims s.map) s.bounds sound D.entries);
+  }
 
   pub stepped_way : (D : Deed V) → Way o r laws s strip log D → Stepped F (r.sizes s.map) (r.dims s.map) s.bounds D
-  stepped_way D (unput refusal none) = still F (r.sizes s.map) (r.dims s.map) s.bounds _ sound refl none
-  stepped_way D (fault q f) = still F (r.sizes s.map) (r.dims s.map) s.bounds _ sound refl refl
-  stepped_way D (answer e reply box t one n moved) = stepped_answer e _ box refl refl one t n moved
+  stepped_way D (unput refusal none) = still _ refl none
+  stepped_way D (fault q f) = still _ refl refl
+  stepped_way D (answer e reply box t one n moved) =
+      record { counted = one; steps = moves F (r.sizes s.map) (r.dims s.map) s.bounds sound e box t n moved }
 
   -- a search reports the questions that it put, and leaves the box
   found_counted : (n : ℕ) (out : Outcome) → reported (found_reply o r s strip log n out) ≡ n
@@ -113,8 +119,8 @@ module _ {M V : Type 0} (o : Order M V) (r : Rules M) (laws : RulesLaws r) (s : 
   found_counted n (Outcome.faults q f) = refl
 
   search_if : (b : Bool) → Stepped F (r.sizes s.map) (r.dims s.map) s.bounds (cond b (refused_after o r s strip log [] Strip) (left_by o r s strip log (due_search r s log)))
-  search_if true = still F (r.sizes s.map) (r.dims s.map) s.bounds _ sound refl refl
-  search_if false = still F (r.sizes s.map) (r.dims s.map) s.bounds _ sound refl (found_counted (count (due_search r s log)) (due_search r s log).outcome)
+  search_if true = still _ refl refl
+  search_if false = still _ refl (found_counted (count (due_search r s log)) (due_search r s log).outcome)
 
   pub stepped_search : Stepped F (r.sizes s.map) (r.dims s.map) s.bounds (searched_box o r s strip log)
   stepped_search = search_if (ltb (length strip) (4 * r.dims s.map))

@@ -11,7 +11,7 @@ use Rattle.maps.specs.Rules.{Rules, RulesLaws}
 use Rattle.bisection.specs.Bounds.{Between}
 use Rattle.bisection.specs.Sound.{Sound}
 use Rattle.bisection.specs.declared.bounds.Bounds.{Bounds}
-use Rattle.study.specs.Calls.{Deed, answered, asked, floor_at, inside, lowered, moves, or_faulted, placed, point_in_box, point_named, raised, refused_after, roof_at, unless_outside, with_answer, with_point}
+use Rattle.study.specs.Calls.{Deed, answered, asked, floor_at, inside, lowered, moves, or_faulted, placed, point_in_box, point_named, raised, refused_after, roof_at, sided, unless_outside, with_answer, with_point}
 use Rattle.study.specs.Replies.{Reply, details_of, reported}
 use Rattle.study.specs.Values.{before, first_outside, point_of, ranked, ranks_from, used}
 use Rattle.study.specs.declared.reply.Refusal.{Refusal}
@@ -29,10 +29,10 @@ pub data Moved (b : Bounds) (e : Entry) : Bounds → Type 0 where
 -- the ranks of values are as many as the values
 before_long : (r n : ℕ) (rest : Result (List ℕ) ℕ) (rs : List ℕ) → ((qs : List ℕ) → rest ≡ Ok qs → length qs ≡ n) → before r rest ≡ Ok rs → length rs ≡ suc n
 before_long r n (Ok qs) rs h e = let s : r ∷ qs ≡ rs = cc in omega (arith, ap length (sym s), h qs refl)
-before_long r n (Err i) rs h e = let z : ◌≡◌ {A = ℕ} 0 1 = cc in absurd (omega arith)
+before_long r n (Err i) rs h e = absurd cc
 
 ranked_long : (i n : ℕ) (o : Option ℕ) (rest : Result (List ℕ) ℕ) (rs : List ℕ) → ((qs : List ℕ) → rest ≡ Ok qs → length qs ≡ n) → ranked i o rest ≡ Ok rs → length rs ≡ suc n
-ranked_long i n None rest rs h e = let z : ◌≡◌ {A = ℕ} 0 1 = cc in absurd (omega arith)
+ranked_long i n None rest rs h e = absurd cc
 ranked_long i n (Some r) rest rs h e = before_long r n rest rs h e
 
 ranks_long : {V : Type 0} (rank : V → Option ℕ) (sizes : List ℕ) (i : ℕ) (values : List V) (rs : List ℕ) → ranks_from rank sizes i values ≡ Ok rs → length rs ≡ length values
@@ -45,12 +45,12 @@ placed_eight (Ok rs) q h e =
     let s : point_of rs ≡ q = cc in
     let pad : length (replicate (8 - length rs) zero) ≡ 8 - length rs = length-replicate (8 - length rs) zero in
     ap length (sym s) ∙ length-append rs (replicate (8 - length rs) zero) ∙ omega (arith, h rs refl)
-placed_eight (Err i) q h e = let z : ◌≡◌ {A = ℕ} 0 1 = cc in absurd (omega arith)
+placed_eight (Err i) q h e = absurd cc
 
 named_if : (a b : Bool) (found : Result (List ℕ) Refusal) (q : List ℕ) → cond a (Err Strip) (cond b found (Err Values)) ≡ Ok q → (b ≡ true) × (found ≡ Ok q)
-named_if true b found q e = let z : ◌≡◌ {A = ℕ} 0 1 = cc in absurd (omega arith)
+named_if true b found q e = absurd cc
 named_if false true found q e = (refl, e)
-named_if false false found q e = let z : ◌≡◌ {A = ℕ} 0 1 = cc in absurd (omega arith)
+named_if false false found q e = absurd cc
 
 -- a refusal before any question reports none
 abbrev Unput : Result (List ℕ) Refusal → Type 0
@@ -76,12 +76,12 @@ inside_unput box (Err refusal) h = h
 
 -- a point of the box comes from a point, and lies nowhere outside
 inside_from : (box : Bounds) (b : Result (List ℕ) Refusal) (q : List ℕ) → inside box b ≡ Ok q → (b ≡ Ok q) × (first_outside box q ≡ None)
-inside_from box (Err refusal) q e = let z : ◌≡◌ {A = ℕ} 0 1 = cc in absurd (omega arith)
+inside_from box (Err refusal) q e = absurd cc
 inside_from box (Ok p) q e = at (first_outside box p) refl e
   where
     at : (o : Option ℕ) → first_outside box p ≡ o → unless_outside p o ≡ Ok q → (◌≡◌ {A = Result (List ℕ) Refusal} (Ok p) (Ok q)) × (first_outside box q ≡ None)
     at None t e = let s : p ≡ q = cc in (e, subst (λ x. first_outside box x ≡ None) s t)
-    at (Some i) t e = let z : ◌≡◌ {A = ℕ} 0 1 = cc in absurd (omega arith)
+    at (Some i) t e = absurd cc
 
 module _ {M V : Type 0} (o : Order M V) (r : Rules M) (laws : RulesLaws r) (s : Study M) where
   unput_named : (cells : ℕ) (values : List V) → Unput (point_named o r s cells values)
@@ -128,7 +128,7 @@ module _ {M V : Type 0} (o : Order M V) (r : Rules M) (laws : RulesLaws r) (s : 
       in_box_lem values q e =
           let parts = inside_from s.bounds (point_named o r s (length strip) values) q e in
           let eight = named_eight (length strip) values q parts.0 in
-          (eight, between_from s.bounds q (point_eight_lem (r.sizes s.map) s.bounds.floor sound.floor_point) eight parts.1)
+          (eight, between_from s.bounds q (point_eight_lem (r.sizes s.map) s.bounds.floor.at sound.floor_point) eight parts.1)
 
       answer_eight : (q y : List ℕ) → r.meaning s.map q ≡ Ok y → length y ≡ 8
       answer_eight q y t = point_eight_lem (r.sizes s.map) y (laws.answers s.map q y t)
@@ -137,16 +137,17 @@ module _ {M V : Type 0} (o : Order M V) (r : Rules M) (laws : RulesLaws r) (s : 
       way_moves e box None t n h = answer e (Ok (Answered 1)) box t refl n (h refl)
       way_moves e box (Some i) t n h = answer e (Err (Side (suc i))) s.bounds t refl n same
 
-      pub way_raise : (values : List V) → Way (raised o r s strip log values)
-      way_raise values =
-          way_point (point_in_box o r s (length strip) values) (λ q. with_answer o r s strip log q (λ e. moves o r s strip log e (floor_at e s.bounds) (first_above e.point e.answer)))
+      way_sided : (values : List V) (moved : Entry → Bounds → Bounds) (wrong : Entry → Option ℕ) → ((e : Entry) → Between s.bounds e.point → length e.point ≡ length e.answer → wrong e ≡ None → Moved s.bounds e (moved e s.bounds)) → Way (sided o r s strip log moved wrong values)
+      way_sided values moved wrong right =
+          way_point (point_in_box o r s (length strip) values) (λ q. with_answer o r s strip log q (λ e. moves o r s strip log e (moved e s.bounds) (wrong e)))
           (inside_unput s.bounds (point_named o r s (length strip) values) (unput_named (length strip) values))
           (λ q e. let at = in_box_lem values q e in
-          way_answer q (λ e. moves o r s strip log e (floor_at e s.bounds) (first_above e.point e.answer)) (λ y t. way_moves (record { point = q; answer = y }) (floor_at (record { point = q; answer = y }) s.bounds) (first_above q y) t at.0 (λ none. up at.1 (at_most_from q y (at.0 ∙ sym (answer_eight q y t)) none))))
+          way_answer q (λ e. moves o r s strip log e (moved e s.bounds) (wrong e))
+          (λ y t. let x : Entry = record { point = q; answer = y } in
+          way_moves x (moved x s.bounds) (wrong x) t at.0 (right x at.1 (at.0 ∙ sym (answer_eight q y t)))))
+
+      pub way_raise : (values : List V) → Way (raised o r s strip log values)
+      way_raise values = way_sided values floor_at (λ e. first_above e.point e.answer) (λ e between long none. up between (at_most_from e.point e.answer long none))
 
       pub way_lower : (values : List V) → Way (lowered o r s strip log values)
-      way_lower values =
-          way_point (point_in_box o r s (length strip) values) (λ q. with_answer o r s strip log q (λ e. moves o r s strip log e (roof_at e s.bounds) (first_above e.answer e.point)))
-          (inside_unput s.bounds (point_named o r s (length strip) values) (unput_named (length strip) values))
-          (λ q e. let at = in_box_lem values q e in
-          way_answer q (λ e. moves o r s strip log e (roof_at e s.bounds) (first_above e.answer e.point)) (λ y t. way_moves (record { point = q; answer = y }) (roof_at (record { point = q; answer = y }) s.bounds) (first_above y q) t at.0 (λ none. down at.1 (at_most_from y q (answer_eight q y t ∙ sym at.0) none))))
+      way_lower values = way_sided values roof_at (λ e. first_above e.answer e.point) (λ e between long none. down between (at_most_from e.answer e.point (sym long) none))

@@ -7,10 +7,11 @@ use Rattle.points.specs.declared.Fault.{Fault}
 use Rattle.maps.specs.Rules.{Rules}
 use Rattle.bisection.specs.Run.{Outcome, Ran, count, questions, searched}
 use Rattle.bisection.specs.declared.bounds.Bounds.{Bounds}
+use Rattle.bisection.specs.declared.bounds.Side.{Side}
 use Rattle.study.specs.Replies.{Reply}
 use Rattle.study.specs.Values.{first_outside, point_of, ranks_from, written}
 use Rattle.study.specs.declared.reply.Refusal.{Refusal}
-use Rattle.study.specs.declared.reply.Refusal.TheVariants.{Strip, Values, Value, Spent, Faulted, Outside, Side, Full}
+use Rattle.study.specs.declared.reply.Refusal.TheVariants.{Strip, Values, Value, Spent, Faulted, Outside, Full}
 use Rattle.study.specs.declared.reply.Report.TheVariants.{Answered, Settled, Pair}
 use Rattle.study.specs.declared.state.Study.{Study}
 
@@ -31,12 +32,16 @@ pub record Deed (V : Type 0) : Type 0 where
   pub questions : List (List ℕ)
   pub entries : List Entry
 
--- a point with its answer becomes the floor with its footing; and the roof
+-- a side at a point that was put, with its answer as the footing
+abbrev pub side_at : Entry → Side
+side_at e = record { at = e.point; footing = Some e }
+
+-- it becomes the floor; and the roof
 abbrev pub floor_at : Entry → Bounds → Bounds
-floor_at e b = record { floor = e.point; roof = b.roof; floor_footing = Some e; roof_footing = b.roof_footing }
+floor_at e b = record { floor = side_at e; roof = b.roof }
 
 abbrev pub roof_at : Entry → Bounds → Bounds
-roof_at e b = record { floor = b.floor; roof = e.point; floor_footing = b.floor_footing; roof_footing = Some e }
+roof_at e b = record { floor = b.floor; roof = side_at e }
 
 -- what two entries show, as ranks: the lower point, its answer, the upper point, its answer
 abbrev pub pair_ranks : ℕ → Entry → Entry → List ℕ
@@ -51,6 +56,11 @@ placed (Err i) = Err (Value (suc i))
 abbrev pub unless_outside : List ℕ → Option ℕ → Result (List ℕ) Refusal
 unless_outside q None = Ok q
 unless_outside q (Some i) = Err (Outside (suc i))
+
+-- refused, where a raised or lowered point lies on the wrong side of its answer in a coordinate
+abbrev pub unless_wrong : Option ℕ → Result (Unit {0}) Refusal
+unless_wrong None = Ok tt
+unless_wrong (Some i) = Err (Refusal.Side (suc i))
 
 abbrev pub inside : Bounds → Result (List ℕ) Refusal → Result (List ℕ) Refusal
 inside box (Ok q) = unless_outside q (first_outside box q)
@@ -108,22 +118,23 @@ module _ {M V : Type 0} (o : Order M V) (r : Rules M) (s : Study M) (strip : Lis
   -- the box moves, unless the answer lies on the wrong side of its point
   abbrev pub moves : Entry → Bounds → Option ℕ → Deed V
   moves e box None = answered e (Ok (Answered 1)) box
-  moves e box (Some i) = answered e (Err (Side (suc i))) s.bounds
+  moves e box (Some i) = answered e (Err (Refusal.Side (suc i))) s.bounds
 
   abbrev pub asked : List V → Deed V
   asked values = with_point (point_named o r s (length strip) values) (λ q. with_answer q (λ e. answered e (Ok (Answered 1)) s.bounds))
 
+  -- a point of the box moves a side, unless it lies on the wrong side of its answer
+  abbrev pub sided : (Entry → Bounds → Bounds) → (Entry → Option ℕ) → List V → Deed V
+  sided moved wrong values =
+      with_point (point_in_box o r s (length strip) values) (λ q. with_answer q (λ e. moves e (moved e s.bounds) (wrong e)))
+
   -- raised if the point is at most its answer
   abbrev pub raised : List V → Deed V
-  raised values =
-      with_point (point_in_box o r s (length strip) values)
-      (λ q. with_answer q (λ e. moves e (floor_at e s.bounds) (first_above e.point e.answer)))
+  raised = sided floor_at (λ e. first_above e.point e.answer)
 
   -- lowered if the answer is at most the point
   abbrev pub lowered : List V → Deed V
-  lowered values =
-      with_point (point_in_box o r s (length strip) values)
-      (λ q. with_answer q (λ e. moves e (roof_at e s.bounds) (first_above e.answer e.point)))
+  lowered = sided roof_at (λ e. first_above e.answer e.point)
 
   -- the reply to a search that ended so, with its count; and the strip afterwards
   abbrev pub found_reply : ℕ → Outcome → Reply

@@ -11,7 +11,11 @@ use Rattle.study.specs.declared.state.Study.{Study}
 
 -- the box of all points
 abbrev pub whole_box : List ℕ → Bounds
-whole_box sizes = record { floor = replicate 8 0; roof = eight (λ i. size_of sizes i - 1); floor_footing = None; roof_footing = None }
+whole_box sizes =
+    record {
+      floor = record { at = replicate 8 0; footing = None };
+      roof = record { at = eight (λ i. size_of sizes i - 1); footing = None };
+    }
 
 -- a newly made study
 abbrev pub made : {M : Type 0} → Rules M → M → ℕ → Study M

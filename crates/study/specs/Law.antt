@@ -58,9 +58,9 @@ module _ {M V : Type 0} (o : Order M V) (r : Rules M) where
     pub counted : reported e.reply ≡ length (due o r e).questions
     pub budget : e.after.left + spent_by o r (e ∷ h) ≡ allowance
     -- in no coordinate does the floor fall or the roof rise, and the floor is at most the roof
-    pub floor : AtMost e.before.bounds.floor e.after.bounds.floor
-    pub roof : AtMost e.after.bounds.roof e.before.bounds.roof
-    pub ordered : AtMost e.after.bounds.floor e.after.bounds.roof
+    pub floor : AtMost e.before.bounds.floor.at e.after.bounds.floor.at
+    pub roof : AtMost e.after.bounds.roof.at e.before.bounds.roof.at
+    pub ordered : AtMost e.after.bounds.floor.at e.after.bounds.roof.at
 
   -- every call of a history is lawful after those before it
   abbrev pub AllLawful : ℕ → List (Event M V) → Type 0

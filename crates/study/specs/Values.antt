@@ -41,7 +41,7 @@ first_from (suc n) i test = cond (test i) (Some i) (first_from n (suc i) test)
 
 -- p lies outside the box in coordinate i
 abbrev pub outside_at : Bounds → List ℕ → ℕ → Bool
-outside_at box p i = nat_lt (rank_of p i) (rank_of box.floor i) || nat_lt (rank_of box.roof i) (rank_of p i)
+outside_at box p i = nat_lt (rank_of p i) (rank_of box.floor.at i) || nat_lt (rank_of box.roof.at i) (rank_of p i)
 
 -- the first coordinate in which it does
 abbrev pub first_outside : Bounds → List ℕ → Option ℕ

@@ -1,20 +1,44 @@
 // The calls on a study.
 ghost use Rattle.std.specs.Prelude.{◌≡◌, ◌*◌, ◌≤◌, [], length, take};
-ghost use Rattle.study.specs.Calls.{answer_to, pair_ranks, point_in_box, point_named};
+ghost use Rattle.points.specs.Points.{first_above};
+ghost use Rattle.study.specs.Calls.{answer_to, pair_ranks, point_in_box, point_named, side_at, unless_wrong};
 ghost use Rattle.study.specs.Calls.Call.{ask as asking, raise as raising, lower as lowering, search as searching};
 ghost use Rattle.study.specs.History.{event, made};
 ghost use Rattle.study.specs.Law.{Accounted, LawOfRuns};
-ghost use Rattle.study.specs.Put.{PutOne};
+ghost use Rattle.study.specs.Put.{PutOne, strip_told};
 ghost use Rattle.study.specs.Values.{written};
 
 use crate::reply::{Refusal, Report};
-use crate::seek::Ended;
+use crate::seek::Found;
 use crate::state::Study;
-use crate::values::{inside, point_of, whole_box, write};
-use bisection::Bounds;
+use crate::values::{counted_from_1, inside, point_of, whole_box, write};
+use bisection::{Bounds, Side};
 use chains::Chain;
 use maps::Map;
 use points::{Entry, Ranks, first_above};
+
+// Whether `low` is at most `high`: a refusal names the first coordinate in which it is above.
+fn at_most(low: &Ranks, high: &Ranks) -> Result<(), Refusal>
+    ensures { result ≡ unless_wrong (first_above low.now high.now) }
+{
+    match first_above(low, high) {
+        None => Ok(()),
+        Some(i) => Err(Refusal::Side {
+            coordinate: counted_from_1(i),
+        }),
+    }
+}
+
+// A side at a point that was put, with its answer as the footing.
+fn side_at(put: Entry) -> Side
+    ensures { result ≡ side_at put }
+{
+    let at = put.point;
+    Side {
+        at,
+        footing: Some(put),
+    }
+}
 
 impl<M: Map> Study<M> {
     // The point that values name, if a strip of so many cells has room for its answer.
@@ -35,10 +59,7 @@ impl<M: Map> Study<M> {
     fn named_inside(&self, values: &[M::Value], cells: usize) -> Result<Ranks, Refusal>
         ensures { result ≡ point_in_box M.Chain.order M.Map.rules self.now cells values.now }
     {
-        match self.named(values, cells) {
-            Ok(point) => inside(&self.bounds, point),
-            Err(refusal) => Err(refusal),
-        }
+        inside(&self.bounds, self.named(values, cells)?)
     }
 
     // Puts one question, if something is left.
@@ -50,10 +71,9 @@ impl<M: Map> Study<M> {
             return Err(Refusal::Spent { count: 0 });
         }
         self.left -= 1;
-        match self.map.put(point) {
-            Ok(answer) => Ok(answer),
-            Err(fault) => Err(Refusal::Faulted { fault, count: 1 }),
-        }
+        self.map
+            .put(point)
+            .map_err(|fault| Refusal::Faulted { fault, count: 1 })
     }
 
     // Writes the answer's values to the strip.
@@ -61,7 +81,19 @@ impl<M: Map> Study<M> {
         requires { M.Map.rules.dims self.now.map ≤ length strip.old }
         ensures { strip.new ≡ written (M.Chain.order.member self.now.map) (take (M.Map.rules.dims self.now.map) answer.now) strip.old }
     {
-        write(&self.map, &answer[0..self.map.dims()], strip, 0);
+        write(&self.map, &answer[..self.map.dims()], strip, 0);
+    }
+
+    // Puts one question and writes its answer to the strip.
+    fn put_and_show(&mut self, point: Ranks, strip: &mut [M::Value]) -> Result<Ranks, Refusal>
+        requires { M.Map.rules.dims self.old.map ≤ length strip.old }
+        ensures told { result ≡ answer_to M.Map.rules self.old point }
+        ensures moved { PutOne M.Chain.order M.Map.rules self.old point self.new }
+        ensures shown { strip.new ≡ strip_told M.Chain.order M.Map.rules self.old strip.old result }
+    {
+        let answer = self.put(point)?;
+        self.show(&answer, strip);
+        Ok(answer)
     }
 
     // Writes a pair to the strip: the lower point, its answer, the upper point, its answer.
@@ -70,10 +102,10 @@ impl<M: Map> Study<M> {
         ensures { strip.new ≡ written (M.Chain.order.member self.now.map) (pair_ranks (M.Map.rules.dims self.now.map) low.now high.now) strip.old }
     {
         let dims = self.map.dims();
-        write(&self.map, &low.point[0..dims], strip, 0);
-        write(&self.map, &low.answer[0..dims], strip, dims);
-        write(&self.map, &high.point[0..dims], strip, 2 * dims);
-        write(&self.map, &high.answer[0..dims], strip, 3 * dims);
+        write(&self.map, &low.point[..dims], strip, 0);
+        write(&self.map, &low.answer[..dims], strip, dims);
+        write(&self.map, &high.point[..dims], strip, 2 * dims);
+        write(&self.map, &high.answer[..dims], strip, 3 * dims);
     }
 
     // A study of a map, with an allowance of questions. Its box is at first all points.
@@ -108,8 +140,7 @@ impl<M: Map> Study<M> {
         ensures { Accounted M.Chain.order M.Map.rules (event (asking values.now) self.old strip.old [] result self.new strip.new []) }
     {
         let point = self.named(values, strip.len())?;
-        let answer = self.put(point)?;
-        self.show(&answer, strip);
+        self.put_and_show(point, strip)?;
         Ok(Report::Answered { count: 1 })
     }
 
@@ -118,15 +149,9 @@ impl<M: Map> Study<M> {
         ensures { Accounted M.Chain.order M.Map.rules (event (raising values.now) self.old strip.old [] result self.new strip.new []) }
     {
         let point = self.named_inside(values, strip.len())?;
-        let answer = self.put(point)?;
-        self.show(&answer, strip);
-        if let Some(i) = first_above(&point, &answer) {
-            return Err(Refusal::Side {
-                coordinate: i as u32 + 1,
-            });
-        }
-        self.bounds.floor = point;
-        self.bounds.floor_footing = Some(Entry { point, answer });
+        let answer = self.put_and_show(point, strip)?;
+        at_most(&point, &answer)?;
+        self.bounds.floor = side_at(Entry { point, answer });
         Ok(Report::Answered { count: 1 })
     }
 
@@ -135,15 +160,9 @@ impl<M: Map> Study<M> {
         ensures { Accounted M.Chain.order M.Map.rules (event (lowering values.now) self.old strip.old [] result self.new strip.new []) }
     {
         let point = self.named_inside(values, strip.len())?;
-        let answer = self.put(point)?;
-        self.show(&answer, strip);
-        if let Some(i) = first_above(&answer, &point) {
-            return Err(Refusal::Side {
-                coordinate: i as u32 + 1,
-            });
-        }
-        self.bounds.roof = point;
-        self.bounds.roof_footing = Some(Entry { point, answer });
+        let answer = self.put_and_show(point, strip)?;
+        at_most(&answer, &point)?;
+        self.bounds.roof = side_at(Entry { point, answer });
         Ok(Report::Answered { count: 1 })
     }
 
@@ -159,14 +178,15 @@ impl<M: Map> Study<M> {
             return Err(Refusal::Strip);
         }
         let budget = self.left();
-        let ended = self.seek(record);
+        let sought = self.seek(record);
         let count = budget - self.left();
-        match ended {
-            Ended::Settled(point) => {
+        let found = sought.map_err(|halt| halt.refusal(count))?;
+        match found {
+            Found::Settled(point) => {
                 self.show(&point, strip);
                 Ok(Report::Settled { count })
             }
-            Ended::Pair {
+            Found::Pair {
                 low,
                 high,
                 coordinate,
@@ -174,9 +194,6 @@ impl<M: Map> Study<M> {
                 self.show_pair(&low, &high, strip);
                 Ok(Report::Pair { count, coordinate })
             }
-            Ended::Spent => Err(Refusal::Spent { count }),
-            Ended::Full => Err(Refusal::Full { count }),
-            Ended::Faulted(fault) => Err(Refusal::Faulted { fault, count }),
         }
     }
 

@@ -3,6 +3,7 @@ ghost use Rattle.std.specs.Prelude.{◌≡◌};
 ghost use Rattle.study.specs.Replies.{count_of, details_of};
 
 use points::Fault;
+use thiserror::Error;
 
 // What a call did, with the count of the questions that it put.
 #[derive(Clone, Copy, PartialEq, Eq, Debug)]
@@ -17,23 +18,25 @@ pub enum Report {
 }
 
 // Why a call was refused. Coordinates are counted from 1, and a count is of the questions put before the refusal.
-#[derive(Clone, Copy, PartialEq, Eq, Debug)]
+#[derive(Clone, Copy, PartialEq, Eq, Debug, Error)]
 pub enum Refusal {
-    // the strip is too short
+    #[error("the strip is too short")]
     Strip,
-    // the number of values is not that of the coordinates
+    #[error("the number of values is not that of the coordinates")]
     Values,
-    // a value is no member of the chain, or lies past those that its coordinate uses
+    #[error("the value of coordinate {coordinate} is no member of the chain, or lies past those that the coordinate uses")]
     Value { coordinate: u32 },
-    // a question is due and nothing is left of the allowance
+    #[error("a question is due and nothing is left of the allowance; {count} were put")]
     Spent { count: u32 },
-    // the question met a fault of the map; it counts
+    // the faulted question is counted too
+    #[error("question {count} met a fault of the map: cause {}, depth {}", .fault.cause, .fault.depth)]
     Faulted { fault: Fault, count: u32 },
-    // the point to raise or lower lies outside the box
+    #[error("the point to raise or lower lies outside the box in coordinate {coordinate}")]
     Outside { coordinate: u32 },
-    // the answer lies on the wrong side of the raised or lowered point; the strip holds it
+    // the strip holds the answer
+    #[error("the answer lies on the wrong side of the raised or lowered point in coordinate {coordinate}")]
     Side { coordinate: u32 },
-    // a question is due and the record is full
+    #[error("a question is due and the record is full; {count} were put")]
     Full { count: u32 },
 }
 
@@ -81,9 +84,8 @@ impl Report {
         ensures { result ≡ count_of self.now }
     {
         match *self {
-            Report::Answered { count } => count,
-            Report::Settled { count } => count,
-            Report::Pair { count, .. } => count,
+            Report::Answered { count } | Report::Settled { count } | Report::Pair { count, .. } =>
+                count,
         }
     }
 }

@@ -1,11 +1,11 @@
 // Values and points: what a call's values name, and what it writes to the strip.
-ghost use Rattle.std.specs.Prelude.{◌≡◌, ◌+◌, ◌<◌, ◌≤◌, ◌++◌, length, take, drop};
+ghost use Rattle.std.specs.Prelude.{◌≡◌, suc, ◌+◌, ◌<◌, ◌≤◌, ◌++◌, IfSome, length, take, drop};
 ghost use Rattle.study.specs.Calls.{placed, unless_outside};
 ghost use Rattle.study.specs.History.{whole_box};
-ghost use Rattle.study.specs.Values.{first_outside, outside_at, ranks_from, used, written};
+ghost use Rattle.study.specs.Values.{first_outside, ranks_from, used, written};
 
 use crate::reply::Refusal;
-use bisection::Bounds;
+use bisection::{Bounds, Side};
 use chains::Chain;
 use points::Ranks;
 
@@ -13,26 +13,28 @@ use points::Ranks;
 pub(crate) fn whole_box(sizes: &Ranks) -> Bounds
     ensures { result ≡ whole_box sizes.now }
 {
-    let mut roof = [0; 8];
-    for i in 0..8 {
-        roof[i] = sizes[i].saturating_sub(1);
-    }
     Bounds {
-        floor: [0; 8],
-        roof,
-        floor_footing: None,
-        roof_footing: None,
+        floor: Side::default(),
+        roof: Side {
+            at: sizes.map(|size| size.saturating_sub(1)),
+            footing: None,
+        },
     }
+}
+
+// A coordinate's number as it is told, from its place in a point.
+pub(crate) fn counted_from_1(place: usize) -> u32
+    requires { place ≤ 8 }
+    ensures { result ≡ suc place }
+{
+    place as u32 + 1
 }
 
 // The rank of a value, if a coordinate of this size uses it.
 fn used_rank<C: Chain>(chain: &C, value: C::Value, size: u32) -> Option<u32>
     ensures { result ≡ used size (C.Chain.order.rank chain.now value) }
 {
-    match chain.rank(value) {
-        Some(rank) if rank < size => Some(rank),
-        _ => None,
-    }
+    chain.rank(value).filter(|rank| *rank < size)
 }
 
 // The point that at most eight values name.
@@ -45,45 +47,41 @@ pub(crate) fn point_of<C: Chain>(
     ensures { result ≡ placed (ranks_from (C.Chain.order.rank chain.now) sizes.now 0 values.now) }
 {
     let mut point = [0; 8];
-    for i in 0..values.len() {
-        let Some(rank) = used_rank(chain, values[i], sizes[i]) else {
-            return Err(Refusal::Value {
-                coordinate: i as u32 + 1,
-            });
-        };
-        point[i] = rank;
+    for (i, value) in values.iter().enumerate() {
+        point[i] = used_rank(chain, *value, sizes[i]).ok_or(Refusal::Value {
+            coordinate: counted_from_1(i),
+        })?;
     }
     Ok(point)
 }
 
-// Whether a point lies outside the box in coordinate `i`.
-fn is_outside(bounds: &Bounds, point: &Ranks, i: usize) -> bool
-    requires { i < 8 }
-    ensures { result ≡ outside_at bounds.now point.now i }
+// The first coordinate in which a point lies outside the box.
+fn first_outside(bounds: &Bounds, point: &Ranks) -> Option<usize>
+    ensures value { result ≡ first_outside bounds.now point.now }
+    ensures bound { IfSome result (λ i. i < 8) }
 {
-    point[i] < bounds.floor[i] || point[i] > bounds.roof[i]
+    (0..8).find(|&i| point[i] < bounds.floor.at[i] || point[i] > bounds.roof.at[i])
 }
 
 // The point, if it lies in the box.
 pub(crate) fn inside(bounds: &Bounds, point: Ranks) -> Result<Ranks, Refusal>
     ensures { result ≡ unless_outside point (first_outside bounds.now point) }
 {
-    for i in 0..8 {
-        if is_outside(bounds, &point, i) {
-            return Err(Refusal::Outside {
-                coordinate: i as u32 + 1,
-            });
-        }
+    match first_outside(bounds, &point) {
+        None => Ok(point),
+        Some(i) => Err(Refusal::Outside {
+            coordinate: counted_from_1(i),
+        }),
     }
-    Ok(point)
 }
 
-// Writes ranks as values to the cells of a strip from `at` on.
+// Writes ranks as values to the cells of a strip from `at` on. By index: a proof would know nothing of what an `iter_mut` zipped
+// with the ranks has written.
 pub(crate) fn write<C: Chain>(chain: &C, ranks: &[u32], strip: &mut [C::Value], at: usize)
     requires { at + length ranks.now ≤ length strip.old }
     ensures { strip.new ≡ take at strip.old ++ written (C.Chain.order.member chain.now) ranks.now (drop at strip.old) }
 {
-    for i in 0..ranks.len() {
-        strip[at + i] = chain.member(ranks[i]).unwrap_or(strip[at + i]);
+    for (i, rank) in ranks.iter().enumerate() {
+        strip[at + i] = chain.member(*rank).unwrap_or(strip[at + i]);
     }
 }

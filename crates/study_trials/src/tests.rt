@@ -2,5 +2,6 @@
 mod boxes;
 mod layers;
 mod lengths;
+mod reasons;
 mod rows;
 mod sheets;

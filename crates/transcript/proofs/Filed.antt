@@ -1,5 +1,5 @@
 -- What a plan prints over a map is what it prints over the sheet that tells the map.
-use Rattle.std.proofs.Common.{◌≡◌, ℕ, ◌-◌, List, [], ◌∷◌, ◌++◌, map, length, IfOk, Ok, Err, decimal, Result, sym, refl, ap, ◌∙◌, subst, ap₂}
+use Rattle.std.proofs.Common.{◌≡◌, ℕ, ◌-◌, List, [], ◌∷◌, ◌++◌, map, length, decimal, sym, refl, ap, ◌∙◌, subst, ap₂}
 use Rattle.chains.specs.Order.{Order}
 use Rattle.points.specs.declared.Entry.{Entry}
 use Rattle.maps.specs.JobOrder.{job_order}
@@ -12,7 +12,7 @@ use Rattle.maps.specs.RowsMade.{row_order, row_rules}
 use Rattle.maps.specs.Rules.{Rules}
 use Rattle.sheets.specs.RowsBody.{table_of}
 use Rattle.transcript.specs.Tables.{table_order, table_rules}
-use Rattle.maps.specs.Through.{through}
+use Rattle.chains.specs.Through.{through}
 use Rattle.maps.specs.declared.jobs.panel.Jobs.{Jobs}
 use Rattle.maps.specs.declared.rows.table.Rows.{Rows}
 use Rattle.transcript.proofs.Twins.{Alike, memo_alike, panel_alike, table_alike}
@@ -26,11 +26,6 @@ use Rattle.transcript.specs.Lines.{done_name, kind_line, left_line, reply_line}
 use Rattle.transcript.specs.Printed.{blank_record, blank_strip, plan_text, sheet_text}
 use Rattle.transcript.specs.Text.{letter_bytes}
 use Rattle.transcript.specs.Transcript.{Stand, after, call_lines, call_of, due_at, ending, lent, line_at, returned, starting, transcript}
-
--- what is promised of all that is made follows of each
-pub made_so : {X Y : Type 0} {P Q : X → Type 0} (r : Result X Y) → ((x : X) → P x → Q x) → IfOk r P → IfOk r Q
-made_so (Ok x) f p = f x p
-made_so (Err y) f p = tt
 
 -- calls on maps that cannot be told apart print alike
 module _ {M N V : Type 0} (o : Order M V) (r : Rules M) (m : M) (o' : Order N V) (r' : Rules N) (n : N) (a : Alike o r m o' r' n) (show : V → List ℕ) where

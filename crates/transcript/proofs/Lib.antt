@@ -1,7 +1,6 @@
 pub mod Alike
 pub mod Filed
 pub mod Going
-pub mod Making
 pub mod Spoken
 pub mod Studied
 pub mod Terms

@@ -17,7 +17,7 @@ use Rattle.maps.specs.RowsMade.{row_order, row_rules, rows_of}
 use Rattle.maps.specs.Rules.{Rules, SameOrder, SameRules}
 use Rattle.sheets.specs.RowsBody.{table_of}
 use Rattle.transcript.specs.Tables.{table_order, table_rules}
-use Rattle.maps.specs.Through.{through}
+use Rattle.chains.specs.Through.{through}
 use Rattle.maps.specs.declared.jobs.panel.Jobs.{Jobs}
 use Rattle.maps.specs.declared.memo.store.Memo.{Memo}
 use Rattle.maps.specs.declared.rows.table.Rows.{Rows}

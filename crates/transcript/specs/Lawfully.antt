@@ -8,7 +8,7 @@ use Rattle.maps.specs.Response.{job_rules}
 use Rattle.maps.specs.RowsMade.{row_order, row_rules}
 use Rattle.maps.specs.Rules.{Rules}
 use Rattle.sheets.specs.RowsBody.{table_of}
-use Rattle.maps.specs.Through.{through}
+use Rattle.chains.specs.Through.{through}
 use Rattle.maps.specs.declared.jobs.panel.Jobs.{Jobs}
 use Rattle.maps.specs.declared.memo.store.Memo.{Memo}
 use Rattle.maps.specs.declared.rows.table.Rows.{Rows}

@@ -2,6 +2,7 @@ pub mod Lawfully
 pub mod Lines
 pub mod Making
 pub mod Memos
+pub mod Opened
 pub mod Panels
 pub mod Printed
 pub mod Ran

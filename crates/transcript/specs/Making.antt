@@ -1,32 +1,30 @@
--- A call of a file, made on a study with a strip and a record.
-use Rattle.std.specs.Prelude.{◌≡◌, ℕ, List, Result, String}
+-- A call of a file, made in a session.
+use Rattle.std.specs.Prelude.{◌≡◌, ℕ, List, Result}
 use Rattle.std.specs.declared.alloc.AllocError.{AllocError}
-use Rattle.std.specs.declared.alloc.Global.{Global}
 use Rattle.chains.specs.Order.{Order}
-use Rattle.points.specs.declared.Entry.{Entry}
 use Rattle.maps.specs.Rules.{Rules}
 use Rattle.study.specs.Calls.{Call}
 use Rattle.study.specs.History.{Event, event}
 use Rattle.study.specs.Law.{Accounted}
 use Rattle.study.specs.Replies.{Reply}
-use Rattle.study.specs.declared.state.Study.{Study}
 use Rattle.transcript.specs.Lines.{done_name, reply_line}
 use Rattle.transcript.specs.Text.{Appended}
 use Rattle.transcript.specs.Transcript.{lent, returned}
+use Rattle.transcript.specs.declared.session.Session.{Session}
 
-module _ {M V : Type 0} (o : Order M V) (r : Rules M) (call : Call V) (before : Study M) (strip : List V) (log : List Entry) (reply : Reply) (after : Study M) (strip_after : List V) (log_after : List Entry) where
+module _ {M V : Type 0} (o : Order M V) (r : Rules M) (call : Call V) (before : Session V M) where
   -- the call, with what it was lent of the record
-  abbrev pub lending : Event M V
-  lending = event call before strip (lent call log) reply after strip_after (lent call log_after)
+  abbrev pub lending : Reply → Session V M → Event M V
+  lending reply after = event call before.study before.strip.items (lent call before.log.items) reply after.study after.strip.items (lent call after.log.items)
 
   -- it did what its definition says and keeps the law of runs, and a record that was not lent is as it was
-  pub record Made : Type 0 where
-    pub accounted : Accounted o r lending
-    pub unlent : log_after ≡ returned call log (lent call log_after)
+  pub record Made (reply : Reply) (after : Session V M) : Type 0 where
+    pub accounted : Accounted o r (lending reply after)
+    pub unlent : after.log.items ≡ returned call before.log.items (lent call after.log.items)
+    pub dims : after.dims ≡ before.dims
 
--- it was made, and its line stands behind the text, unless memory was wanting
-module _ {M V : Type 0} (o : Order M V) (r : Rules M) (show : V → List ℕ) (call : Call V) (before : Study M) (strip : List V) (log : List Entry) (text : String Global) (done : Result (Unit {0}) AllocError) (after : Study M) (strip_after : List V) (log_after : List Entry) (text_after : String Global) where
-  pub record Told : Type 0 where
+  -- it was made, and its line stands behind the text, unless memory was wanting
+  pub record Told (show : V → List ℕ) (done : Result (Unit {0}) AllocError) (after : Session V M) : Type 0 where
     pub reply : Reply
-    pub made : Made o r call before strip log reply after strip_after log_after
-    pub line : Appended text (reply_line show (r.dims before.map) (done_name call) reply strip_after) done text_after
+    pub made : Made reply after
+    pub line : Appended before.text (reply_line show before.dims (done_name call) reply after.strip.items) done after.text

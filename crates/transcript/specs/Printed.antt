@@ -7,7 +7,7 @@ use Rattle.maps.specs.Recall.{memo_rules}
 use Rattle.transcript.specs.Memos.{new_memo}
 use Rattle.maps.specs.Rules.{Rules}
 use Rattle.transcript.specs.Tables.{table_order, table_rules}
-use Rattle.maps.specs.Through.{through}
+use Rattle.chains.specs.Through.{through}
 use Rattle.sheets.specs.CallsBody.{Planned}
 use Rattle.sheets.specs.Faults.{fault_number}
 use Rattle.sheets.specs.Reading.{Told}

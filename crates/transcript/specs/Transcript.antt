@@ -4,7 +4,8 @@ use Rattle.chains.specs.Order.{Order}
 use Rattle.points.specs.declared.Entry.{Entry}
 use Rattle.maps.specs.Rules.{Rules}
 use Rattle.bisection.specs.declared.bounds.Bounds.{Bounds}
-use Rattle.sheets.specs.CallsBody.{Asked}
+use Rattle.sheets.specs.CallsBody.{Asked, asked_of}
+use Rattle.sheets.specs.declared.calls.Call.{Call as PlanCall}
 use Rattle.study.specs.Calls.{Call, Deed, deed}
 use Rattle.study.specs.History.{whole_box}
 use Rattle.study.specs.declared.state.Study.{Study}
@@ -16,6 +17,10 @@ call_of (Asked.asks values) = Call.ask values
 call_of (Asked.raises values) = Call.raise values
 call_of (Asked.lowers values) = Call.lower values
 call_of Asked.searches = Call.search
+
+-- and as a plan holds it
+abbrev pub planned_call : {V : Type 0} → PlanCall V → Call V
+planned_call call = call_of (asked_of call)
 
 -- what is lent of the record: all of it to a search, and nothing to the others
 abbrev pub lent : {V : Type 0} → Call V → List Entry → List Entry

@@ -4,6 +4,7 @@
 mod file;
 mod lines;
 mod run;
+mod session;
 mod values;
 
 pub use file::run_file;

@@ -2,9 +2,10 @@
 ghost use Rattle.std.specs.Prelude.{◌≡◌, ℕ, List, decimal};
 ghost use Rattle.transcript.specs.Text.{Appended, letter_bytes};
 
-use std::alloc::{AllocError, Global};
+use std::alloc::AllocError;
 
-// A value that a strip holds and a line shows.
+// A value that a strip holds and a line shows. It is printed by this trait and not by `Display`, since a grade is a `u8`,
+// which would be printed as a number.
 pub trait Printed: Copy {
     // The bytes that are printed of it.
     ghost bytes: { Self → List ℕ };
@@ -15,7 +16,7 @@ pub trait Printed: Copy {
     fn blank() -> Self
         ensures { result ≡ nothing };
 
-    fn print(self, heap: Global, text: &mut String) -> Result<(), AllocError>
+    fn print(self, text: &mut String) -> Result<(), AllocError>
         ensures { Appended text.old (bytes self) result text.new };
 }
 
@@ -29,9 +30,8 @@ impl Printed for u32 {
         0
     }
 
-    fn print(self, heap: Global, text: &mut String) -> Result<(), AllocError> {
-        let digits = self.to_string(heap)?;
-        text.push_str(digits.as_str())
+    fn print(self, text: &mut String) -> Result<(), AllocError> {
+        write!(text, "{self}")
     }
 }
 
@@ -45,7 +45,7 @@ impl Printed for u8 {
         b'-'
     }
 
-    fn print(self, _heap: Global, text: &mut String) -> Result<(), AllocError> {
+    fn print(self, text: &mut String) -> Result<(), AllocError> {
         text.push(char::from(self))
     }
 }

@@ -1,4 +1,3 @@
-pub mod Fixed
 pub mod Jobs
 pub mod Tables
 pub mod Worked

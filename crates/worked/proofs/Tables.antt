@@ -1,57 +1,44 @@
 -- What a call on a newly made study of a table over grades A and B leaves, bare or under a memo, as a closed term.
-use Rattle.std.proofs.Common.{◌≡◌, ℕ, List, [], ◌∷◌, length, sym, ap, ◌∙◌, arith}
-use Rattle.std.specs.List.{slice_get}
-use Rattle.std.proofs.lemmas.List.{length-take-le}
-use Rattle.chains.specs.Letters.{place_of}
-use Rattle.chains.specs.declared.grades.letters.Grades.{Grades}
-use Rattle.chains.specs.GradeOrder.{listed}
-use Rattle.points.specs.Points.{Meaning, at_points}
+use Rattle.std.proofs.Common.{◌≡◌, ℕ, List, [], ◌∷◌, refl, ap, ◌∙◌}
+use Rattle.chains.specs.Through.{through}
 use Rattle.points.specs.declared.Entry.{Entry}
-use Rattle.maps.specs.Recall.{memo_rules, recall_or, recalled}
-use Rattle.maps.specs.Replies.{row_meaning, row_sizes}
+use Rattle.maps.specs.Recall.{memo_rules}
 use Rattle.maps.specs.RowsMade.{row_order, row_rules}
-use Rattle.maps.specs.Through.{through}
 use Rattle.maps.specs.declared.memo.store.Memo.{Memo}
 use Rattle.maps.specs.declared.rows.table.Rows.{Rows}
-use Rattle.study.specs.Calls.{Call, Deed}
+use Rattle.sheets.specs.RowsBody.{Table, table_of}
+use Rattle.study.specs.Calls.{Call, Deed, deed}
+use Rattle.study.specs.History.{made}
+use Rattle.transcript.specs.Memos.{new_memo}
+use Rattle.transcript.specs.Tables.{table_order, table_rules}
+use Rattle.transcript.proofs.Alike.{new_alike}
+use Rattle.transcript.proofs.Twins.{memo_alike, table_alike}
 use Rattle.worked.specs.Examples.{blanks, over_memo, over_rows, strip}
 use Rattle.worked.specs.Sheets.{A, B, MemoTableOf, TableOf}
-use Rattle.worked.proofs.Fixed.{fixed, fixed_deed}
 
--- what is left by a call on the study of one coordinate of A and B, with these answers
-abbrev pub on_table : Meaning → ℕ → ℕ → Call ℕ → Deed ℕ
-on_table F allowance room =
-    fixed_deed (λ r. slice_get (A ∷ B ∷ []) r) (λ v. place_of (A ∷ B ∷ []) v) 1 (row_sizes 1 2) F allowance strip (blanks room)
+-- the table of one coordinate that lists these rows
+abbrev table : List Entry → Table
+table rows = record { letters = A ∷ B ∷ []; dims = 1; rows = rows }
 
--- the answers of these rows, and those of a memo over them
-abbrev pub bare : List Entry → Meaning
-bare rows = row_meaning (row_sizes 1 2) rows
+-- what is left by a call on a study of a table, and of a memo over one
+abbrev bare : Table → ℕ → ℕ → Call ℕ → Deed ℕ
+bare t allowance room = deed table_order table_rules (made table_rules t allowance) strip (blanks room)
 
-abbrev memo_over : List ℕ → List Entry → List Entry → Meaning
-memo_over sizes kept rows = at_points sizes (λ q. recall_or (recalled sizes kept q) (row_meaning sizes rows q))
+abbrev remembered : Table → ℕ → ℕ → Call ℕ → Deed ℕ
+remembered t allowance room = deed (through (λ n. n.map) table_order) (memo_rules table_rules) (made (memo_rules table_rules) (new_memo t) allowance) strip (blanks room)
 
-abbrev pub remembered : List Entry → Meaning
-remembered rows = memo_over (row_sizes 1 2) [] rows
-
-two : (c : Grades) → listed c ≡ A ∷ B ∷ [] → c.count ≡ 2
-two c h = sym (length-take-le c.count c.letters (omega (arith, c.room, c.most))) ∙ ap length h
+table_is : (rows : List Entry) (m : Rows) → TableOf rows m → table_of m ≡ table rows
+table_is rows m h i = record { letters = h.grades i; dims = h.dims i; rows = h.lists i }
 
 -- every newly made study of such a table, or of a memo over one, is as good as that one
-pub on_table_lem : (rows : List Entry) (m : Rows) → TableOf rows m → (allowance room : ℕ) (call : Call ℕ) → over_rows m allowance room call ≡ on_table (bare rows) allowance room call
-on_table_lem rows m h allowance room call =
-    let ls = h.grades in
-    let d = h.dims in
-    let c = two m.grades h.grades in
-    let rs = h.lists in
-    fixed row_order row_rules m allowance strip (blanks room) call
-    ∙ (λ i. fixed_deed (λ r. slice_get (ls i) r) (λ v. place_of (ls i) v) (d i) (row_sizes (d i) (c i)) (row_meaning (row_sizes (d i) (c i)) (rs i)) allowance strip (blanks room) call)
+pub on_table : (rows : List Entry) (m : Rows) → TableOf rows m → (allowance room : ℕ) (call : Call ℕ) → over_rows m allowance room call ≡ bare (table rows) allowance room call
+on_table rows m h allowance room call =
+    new_alike row_order row_rules m table_order table_rules (table_of m) (table_alike m) allowance strip (blanks room) call
+    ∙ ap (λ t. bare t allowance room call) (table_is rows m h)
 
-pub on_memo : (rows : List Entry) (m : Memo Rows) → MemoTableOf rows m → (allowance room : ℕ) (call : Call ℕ) → over_memo m allowance room call ≡ on_table (remembered rows) allowance room call
+pub on_memo : (rows : List Entry) (m : Memo Rows) → MemoTableOf rows m → (allowance room : ℕ) (call : Call ℕ) → over_memo m allowance room call ≡ remembered (table rows) allowance room call
 on_memo rows m h allowance room call =
-    let ls = h.below.grades in
-    let d = h.below.dims in
-    let c = two m.map.grades h.below.grades in
-    let rs = h.below.lists in
-    let kept = h.empty in
-    fixed (through (λ n. n.map) row_order) (memo_rules row_rules) m allowance strip (blanks room) call
-    ∙ (λ i. fixed_deed (λ r. slice_get (ls i) r) (λ v. place_of (ls i) v) (d i) (row_sizes (d i) (c i)) (memo_over (row_sizes (d i) (c i)) (kept i) (rs i)) allowance strip (blanks room) call)
+    let below = new_memo (table_of m.map) in
+    new_alike (through (λ n. n.map) row_order) (memo_rules row_rules) m (through (λ n. n.map) table_order) (memo_rules table_rules) below
+    (memo_alike row_order row_rules m table_order table_rules below h.empty refl (table_alike m.map)) allowance strip (blanks room) call
+    ∙ ap (λ t. remembered t allowance room call) (table_is rows m.map h.below)

@@ -5,7 +5,7 @@ use Rattle.maps.specs.JobOrder.{job_order}
 use Rattle.maps.specs.Recall.{memo_rules}
 use Rattle.maps.specs.Response.{job_rules}
 use Rattle.maps.specs.RowsMade.{row_order, row_rules}
-use Rattle.maps.specs.Through.{through}
+use Rattle.chains.specs.Through.{through}
 use Rattle.maps.specs.declared.jobs.panel.Jobs.{Jobs}
 use Rattle.maps.specs.declared.memo.store.Memo.{Memo}
 use Rattle.maps.specs.declared.rows.table.Rows.{Rows}
@@ -51,7 +51,11 @@ ranks a b = a ∷ b ∷ 0 ∷ 0 ∷ 0 ∷ 0 ∷ 0 ∷ 0 ∷ []
 
 -- the box of the sheet that is whole but for its floor, which is (100, 100) by the answer (150, 250): in ranks (2, 2) and (3, 5)
 abbrev pub raised_box : Bounds
-raised_box = record { floor = ranks 2 2; roof = ranks 11 21; floor_footing = Some (row (ranks 2 2) (ranks 3 5)); roof_footing = None }
+raised_box =
+    record {
+      floor = record { at = ranks 2 2; footing = Some (row (ranks 2 2) (ranks 3 5)) };
+      roof = record { at = ranks 11 21; footing = None };
+    }
 
 pub record WorkedExamples : Type 0 where
   -- the two-job sheet settles (150, 250) in 6 questions, for which an allowance of 6 and a record of 6 are enough

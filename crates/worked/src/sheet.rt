@@ -6,18 +6,11 @@ use maps::{Job, Jobs};
 use std::alloc::{AllocError, Global};
 
 // The sheet, unless memory is wanting.
-pub fn two_jobs(heap: Global) -> Result<Jobs, AllocError>
+pub fn two_jobs(alloc: Global) -> Result<Jobs, AllocError>
     ensures { IfOk result TwoJobs }
 {
-    let Ok(first) = Job::new(2, 10, 10, 0, '-') else {
-        unreachable()
-    };
-    let Ok(second) = Job::new(3, 20, 20, 1, 'h') else {
-        unreachable()
-    };
-    let jobs = vec![in heap; first, second]?;
-    match Jobs::new(50, jobs) {
-        Ok(panel) => Ok(panel),
-        Err(_) => unreachable(),
-    }
+    let first = Job::new(2, 10, 10, 0, '-').unwrap();
+    let second = Job::new(3, 20, 20, 1, 'h').unwrap();
+    let jobs = vec![in alloc; first, second]?;
+    Ok(Jobs::new(50, jobs).unwrap())
 }

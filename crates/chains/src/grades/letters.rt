@@ -2,7 +2,7 @@
 ghost use Rattle.std.specs.Prelude.{◌≡◌, ◌≤◌, true, length, take};
 ghost use Rattle.chains.specs.Letters.{capitals, different};
 
-// The first `count` letters are the grades, low first.
+// The first `count` letters are the grades, low first. They stand in an array, as a `Vec` or an `ArrayVec` could not be copied.
 #[derive(Clone, Copy, Debug)]
 pub struct Grades {
     pub(super) letters: [u8; 8],

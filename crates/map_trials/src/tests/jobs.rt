@@ -5,18 +5,12 @@ use std::alloc::Global;
 use std::test::Fail;
 
 // A panel of two jobs in ticks of 50 microseconds; the second has this hold and mark.
-pub(super) fn panel(heap: Global, hold: u32, mark: char) -> Result<Jobs, Fail> {
-    let mut jobs = Vec::new(heap);
+pub(super) fn panel(alloc: Global, hold: u32, mark: char) -> Result<Jobs, Fail> {
+    let mut jobs = Vec::new(alloc);
     for (run, period, hold, mark) in [(2, 10, 0, '-'), (3, 20, hold, mark)] {
-        match Job::new(run, period, period, hold, mark) {
-            Ok(job) => jobs.push(job)?,
-            Err(_) => return Err(Fail::new("no job")),
-        }
+        jobs.push(Job::new(run, period, period, hold, mark)?)?;
     }
-    match Jobs::new(50, jobs) {
-        Ok(jobs) => Ok(jobs),
-        Err(_) => Err(Fail::new("no panel")),
-    }
+    Ok(Jobs::new(50, jobs)?)
 }
 
 #[test]
@@ -92,11 +86,7 @@ fn jobs_have_ranges(rt: HostRuntime) {
         (2, 5, 5, 2, '-', Some(JobFault::Mark)),
         (2, 5, 5, 2, 'x', Some(JobFault::Mark)),
     ] {
-        let told = match Job::new(run, period, limit, hold, mark) {
-            Ok(_) => None,
-            Err(fault) => Some(fault),
-        };
-        assert!(rt; told == fault);
+        assert!(rt; Job::new(run, period, limit, hold, mark).err() == fault);
     }
     assert!(rt; matches!(Jobs::new(50, Vec::new(rt.alloc())), Err(JobsFault::Count)));
     assert!(rt; matches!(Jobs::new(0, Vec::new(rt.alloc())), Err(JobsFault::Step)));

@@ -9,16 +9,13 @@ use std::process::Abort;
 use std::test::Fail;
 
 // A panel of one job that always takes 5 ticks, with its questions counted.
-fn counted(heap: Global) -> Result<Tally<Jobs>, Fail> {
-    let mut jobs = Vec::new(heap);
-    let Ok(job) = Job::new(5, 100, 100, 0, '-') else {
-        return Err(Fail::new("no job"));
-    };
-    jobs.push(job)?;
-    match Jobs::new(1, jobs) {
-        Ok(map) => Ok(Tally { map, count: 0 }),
-        Err(_) => Err(Fail::new("no panel")),
-    }
+fn counted(alloc: Global) -> Result<Tally<Jobs>, Fail> {
+    let mut jobs = Vec::new(alloc);
+    jobs.push(Job::new(5, 100, 100, 0, '-')?)?;
+    Ok(Tally {
+        map: Jobs::new(1, jobs)?,
+        count: 0,
+    })
 }
 
 // Puts the ranks below `end` to a memo, in turn.
@@ -47,10 +44,7 @@ fn the_sixty_fifth_is_not(rt: HostRuntime) -> Result<(), Fail> {
 }
 
 fn broken(depth: u8) -> Result<Broken, Fail> {
-    match Grades::new(b"AB") {
-        Ok(grades) => Ok(Broken::new(grades, depth)),
-        Err(_) => Err(Fail::new("no grades")),
-    }
+    Ok(Broken::new(Grades::new(b"AB")?, depth))
 }
 
 #[test]

@@ -2,39 +2,23 @@ use chains::Grades;
 use maps::{Map, Memo, RowFault, Rows, RowsFault};
 use points::{Entry, Fault, Ranks};
 use std::alloc::Global;
-use std::process::Abort;
 use std::test::Fail;
 
 fn row(point: Ranks, answer: Ranks) -> Entry {
     Entry { point, answer }
 }
 
-fn grades(letters: &[u8]) -> Result<Grades, Fail> {
-    match Grades::new(letters) {
-        Ok(grades) => Ok(grades),
-        Err(_) => Err(Fail::new("no grades")),
-    }
-}
-
 // Over grades A, B and C, two coordinates: AB is answered BA, and CC by itself.
-fn table(rt: &impl Abort, heap: Global) -> Result<Rows, Fail> {
-    let Ok(mut rows) = Rows::new(heap, grades(b"ABC")?, 2) else {
-        return Err(Fail::new("no table"));
-    };
-    assert!(rt;
-        rows.list(row([0, 1, 0, 0, 0, 0, 0, 0], [1, 0, 0, 0, 0, 0, 0, 0]))
-            .is_ok()
-    );
-    assert!(rt;
-        rows.list(row([2, 2, 0, 0, 0, 0, 0, 0], [2, 2, 0, 0, 0, 0, 0, 0]))
-            .is_ok()
-    );
+fn table(alloc: Global) -> Result<Rows, Fail> {
+    let mut rows = Rows::new(alloc, Grades::new(b"ABC")?, 2)?;
+    rows.list(row([0, 1, 0, 0, 0, 0, 0, 0], [1, 0, 0, 0, 0, 0, 0, 0]))?;
+    rows.list(row([2, 2, 0, 0, 0, 0, 0, 0], [2, 2, 0, 0, 0, 0, 0, 0]))?;
     Ok(rows)
 }
 
 #[test]
 fn rows_answer_what_they_list(rt: HostRuntime) -> Result<(), Fail> {
-    let mut rows = table(&rt, rt.alloc())?;
+    let mut rows = table(rt.alloc())?;
     assert_eq!(rt; rows.dims(), 2);
     assert!(rt; rows.sizes() == [3, 3, 1, 1, 1, 1, 1, 1]);
     assert!(rt; rows.put([0, 1, 0, 0, 0, 0, 0, 0]) == Ok([1, 0, 0, 0, 0, 0, 0, 0]));
@@ -47,7 +31,7 @@ fn rows_answer_what_they_list(rt: HostRuntime) -> Result<(), Fail> {
 
 #[test]
 fn rows_refuse_what_is_wrong(rt: HostRuntime) -> Result<(), Fail> {
-    let mut rows = table(&rt, rt.alloc())?;
+    let mut rows = table(rt.alloc())?;
     assert!(rt;
         rows.list(row([3, 0, 0, 0, 0, 0, 0, 0], [0, 0, 0, 0, 0, 0, 0, 0])) == Err(RowFault::Point)
     );
@@ -64,13 +48,13 @@ fn rows_refuse_what_is_wrong(rt: HostRuntime) -> Result<(), Fail> {
     );
     assert!(rt;
         matches!(
-            Rows::new(rt.alloc(), grades(b"AB")?, 0),
+            Rows::new(rt.alloc(), Grades::new(b"AB")?, 0),
             Err(RowsFault::Dims)
         )
     );
     assert!(rt;
         matches!(
-            Rows::new(rt.alloc(), grades(b"AB")?, 5),
+            Rows::new(rt.alloc(), Grades::new(b"AB")?, 5),
             Err(RowsFault::Dims)
         )
     );
@@ -79,17 +63,12 @@ fn rows_refuse_what_is_wrong(rt: HostRuntime) -> Result<(), Fail> {
 
 #[test]
 fn four_coordinates_of_eight_grades_fill_the_table(rt: HostRuntime) -> Result<(), Fail> {
-    let Ok(mut rows) = Rows::new(rt.alloc(), grades(b"ABCDEFGH")?, 4) else {
-        return Err(Fail::new("no table"));
-    };
+    let mut rows = Rows::new(rt.alloc(), Grades::new(b"ABCDEFGH")?, 4)?;
     for a in 0..8 {
         for b in 0..8 {
             for c in 0..8 {
                 for d in 0..8 {
-                    assert!(rt;
-                        rows.list(row([a, b, c, d, 0, 0, 0, 0], [d, c, b, a, 0, 0, 0, 0]))
-                            .is_ok()
-                    );
+                    rows.list(row([a, b, c, d, 0, 0, 0, 0], [d, c, b, a, 0, 0, 0, 0]))?;
                 }
             }
         }
@@ -102,7 +81,7 @@ fn four_coordinates_of_eight_grades_fill_the_table(rt: HostRuntime) -> Result<()
 
 #[test]
 fn two_memos_over_rows(rt: HostRuntime) -> Result<(), Fail> {
-    let mut map = Memo::new(Memo::new(table(&rt, rt.alloc())?));
+    let mut map = Memo::new(Memo::new(table(rt.alloc())?));
     assert!(rt; map.put([0, 1, 0, 0, 0, 0, 0, 0]) == Ok([1, 0, 0, 0, 0, 0, 0, 0]));
     assert!(rt; map.put([0, 1, 0, 0, 0, 0, 0, 0]) == Ok([1, 0, 0, 0, 0, 0, 0, 0]));
     assert!(rt; map.put([1, 1, 0, 0, 0, 0, 0, 0]) == Err(Fault { cause: 1, depth: 2 }));

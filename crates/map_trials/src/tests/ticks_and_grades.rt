@@ -3,9 +3,7 @@ use std::test::Fail;
 
 #[test]
 fn ticks_go_by_steps(rt: HostRuntime) -> Result<(), Fail> {
-    let Ok(ticks) = Ticks::new(50, 4) else {
-        return Err(Fail::new("no ticks"));
-    };
+    let ticks = Ticks::new(50, 4)?;
     assert_eq!(rt; ticks.size(), 4);
     assert_eq!(rt; ticks.member(3), Some(150));
     assert_eq!(rt; ticks.member(4), None);
@@ -27,19 +25,13 @@ fn ticks_have_ranges(rt: HostRuntime) {
         (1, 1_000_003, Some(TicksFault::Size)),
         (1001, 0, Some(TicksFault::Step)),
     ] {
-        let told = match Ticks::new(step, size) {
-            Ok(_) => None,
-            Err(fault) => Some(fault),
-        };
-        assert!(rt; told == fault);
+        assert!(rt; Ticks::new(step, size).err() == fault);
     }
 }
 
 #[test]
 fn grades_keep_their_order(rt: HostRuntime) -> Result<(), Fail> {
-    let Ok(grades) = Grades::new(b"CAB") else {
-        return Err(Fail::new("no grades"));
-    };
+    let grades = Grades::new(b"CAB")?;
     assert_eq!(rt; grades.size(), 3);
     assert_eq!(rt; grades.member(0), Some(b'C'));
     assert_eq!(rt; grades.member(2), Some(b'B'));
@@ -51,10 +43,7 @@ fn grades_keep_their_order(rt: HostRuntime) -> Result<(), Fail> {
 }
 
 fn grades_fault(letters: &[u8]) -> Option<GradesFault> {
-    match Grades::new(letters) {
-        Ok(_) => None,
-        Err(fault) => Some(fault),
-    }
+    Grades::new(letters).err()
 }
 
 #[test]

@@ -1,23 +1,24 @@
 // Why there is no such job or no such panel.
+use thiserror::Error;
 
-#[derive(Clone, Copy, PartialEq, Eq, Debug)]
+#[derive(Clone, Copy, PartialEq, Eq, Debug, Error)]
 pub enum JobFault {
-    // the run is not from 1 to 1,000,000
+    #[error("the run of a job is not from 1 to 1,000,000 ticks")]
     Run,
-    // the period is not from 1 to 1,000,000
+    #[error("the period of a job is not from 1 to 1,000,000 ticks")]
     Period,
-    // the limit is not from 1 to the period
+    #[error("the limit of a job is not from 1 to its period")]
     Limit,
-    // the hold is above the run
+    #[error("the hold of a job is above its run")]
     Hold,
-    // the mark is none of `h`, `p` and `-`, or it is `-` with a hold
+    #[error("the mark of a job is none of `h`, `p` and `-`, or it is `-` with a hold")]
     Mark,
 }
 
-#[derive(Clone, Copy, PartialEq, Eq, Debug)]
+#[derive(Clone, Copy, PartialEq, Eq, Debug, Error)]
 pub enum JobsFault {
-    // the step is not from 1 to 1,000 microseconds
+    #[error("the step of a panel is not from 1 to 1,000 microseconds")]
     Step,
-    // there is no job, or there are more than eight
+    #[error("a panel has no job, or more than eight")]
     Count,
 }

@@ -1,14 +1,13 @@
 // A map with the answers that it has given, at most 64 of them.
-ghost use Rattle.std.specs.Prelude.{◌≡◌, ◌≤◌, length};
+ghost use Rattle.std.specs.Prelude.{◌≤◌};
+ghost use Rattle.arrayvec.specs.ArrayVec.{array_vec_len};
 
+use arrayvec::ArrayVec;
 use points::Entry;
 
-// The first `count` entries are stored.
 #[derive(Drop)]
 pub struct Memo<M> {
     pub(super) map: M,
-    pub(super) entries: [Entry; 64],
-    pub(super) count: usize,
-    ghost room: { length entries ≡ 64 },
-    ghost most: { count ≤ 64 },
+    pub(super) entries: ArrayVec<Entry, 64>,
+    ghost most: { array_vec_len entries ≤ 64 },
 }

@@ -1,21 +1,22 @@
 // Why there is no such table, or why a row cannot be listed.
+use thiserror::Error;
 
-#[derive(Clone, Copy, PartialEq, Eq, Debug)]
+#[derive(Clone, Copy, PartialEq, Eq, Debug, Error)]
 pub enum RowsFault {
-    // the number of coordinates is not from 1 to 4
+    #[error("the number of coordinates of a table is not from 1 to 4")]
     Dims,
-    // there was no memory for the table
+    #[error("there was no memory for a table")]
     Memory,
 }
 
-#[derive(Clone, Copy, PartialEq, Eq, Debug)]
+#[derive(Clone, Copy, PartialEq, Eq, Debug, Error)]
 pub enum RowFault {
-    // what is listed is no point
+    #[error("what a row lists is no point")]
     Point,
-    // its answer is no point
+    #[error("the answer of a row is no point")]
     Answer,
-    // the point is listed already
+    #[error("a row lists a point that is listed already")]
     Repeated,
-    // there was no memory for the row
+    #[error("there was no memory for a row")]
     Memory,
 }

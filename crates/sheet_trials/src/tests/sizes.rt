@@ -3,17 +3,13 @@ use std::alloc::Global;
 use std::test::Fail;
 
 // So many small letters, with no line end.
-fn letters(heap: Global, count: usize) -> Result<Vec<u8>, Fail> {
-    let mut file = Vec::new(heap);
-    for _i in 0..count {
-        file.push(b'a')?;
-    }
-    Ok(file)
+fn letters(alloc: Global, count: usize) -> Result<Vec<u8>, Fail> {
+    Ok(vec![in alloc; b'a'; count]?)
 }
 
 // Every point of four coordinates over eight grades, each answered by itself: 4,097 lines of rows.
-fn all_rows(heap: Global) -> Result<Vec<u8>, Fail> {
-    let mut file = Vec::new(heap);
+fn all_rows(alloc: Global) -> Result<Vec<u8>, Fail> {
+    let mut file = Vec::new(alloc);
     file.extend_from_slice(b"bodies 2\nrows 4097\ncalls 1\ngrades ABCDEFGH 4\n")?;
     for a in b"ABCDEFGH" {
         for b in b"ABCDEFGH" {

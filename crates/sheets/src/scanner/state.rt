@@ -1,9 +1,13 @@
 // How far a file has been read.
 ghost use Rattle.std.specs.Prelude.{◌+◌, ◌≤◌, length};
 
+use std::alloc::Global;
+
 // The bytes of a file that are still to be read.
 #[derive(Drop)]
 pub struct Scanner<'a> {
+    // where what they tell is kept
+    pub(crate) alloc: Global,
     // the line that is being read
     pub(super) text: &'a [u8],
     // what is left of it

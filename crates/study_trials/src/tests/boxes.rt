@@ -1,37 +1,34 @@
 // Raises and lowers of the two-job panel, and the order in which they are refused.
-use crate::tests::sheets::{BLANK, panel};
+use crate::tests::sheets::panel;
 use crate::{at, entry};
 use maps::{Jobs, Memo};
+use points::Entry;
 use std::alloc::Global;
 use std::process::Abort;
 use std::test::Fail;
-use study::{Refusal, Report, Study};
+use study::{Details, Refusal, Report, Study};
 
 #[test]
 fn a_raise_is_accepted_and_a_lower_refused(rt: HostRuntime) -> Result<(), Fail> {
     let mut study = Study::new(panel(rt.alloc())?, 20);
     let mut strip = [9; 8];
-    assert!(rt;
-        matches!(
-            study.raise(&[100, 100], &mut strip),
-            Ok(Report::Answered { count: 1 })
-        )
+    assert_eq!(rt;
+        study.raise(&[100, 100], &mut strip),
+        Ok(Report::Answered { count: 1 })
     );
     assert_eq!(rt; strip, [150, 250, 9, 9, 9, 9, 9, 9]);
     let raised = study.bounds();
-    assert!(rt; raised.floor == at(2, 2));
-    assert!(rt; raised.floor_footing == Some(entry(at(2, 2), at(3, 5))));
+    assert!(rt; raised.floor.at == at(2, 2));
+    assert!(rt; raised.floor.footing == Some(entry(at(2, 2), at(3, 5))));
     let mut strip = [9; 8];
-    assert!(rt;
-        matches!(
-            study.lower(&[150, 200], &mut strip),
-            Err(Refusal::Side { coordinate: 2 })
-        )
+    assert_eq!(rt;
+        study.lower(&[150, 200], &mut strip),
+        Err(Refusal::Side { coordinate: 2 })
     );
     assert_eq!(rt; strip, [150, 250, 9, 9, 9, 9, 9, 9]);
     let bounds = study.bounds();
-    assert!(rt; bounds.roof == at(11, 21));
-    assert!(rt; bounds.roof_footing.is_none());
+    assert!(rt; bounds.roof.at == at(11, 21));
+    assert!(rt; bounds.roof.footing.is_none());
     assert_eq!(rt; study.left(), 18);
     Ok(())
 }
@@ -40,20 +37,16 @@ fn a_raise_is_accepted_and_a_lower_refused(rt: HostRuntime) -> Result<(), Fail> 
 fn a_search_goes_on_from_a_raised_floor(rt: HostRuntime) -> Result<(), Fail> {
     let mut study = Study::new(Memo::new(panel(rt.alloc())?), 20);
     let mut strip = [0; 8];
-    let mut record = [BLANK; 20];
-    assert!(rt; study.raise(&[100, 100], &mut strip).is_ok());
+    let mut record = [Entry::default(); 20];
+    study.raise(&[100, 100], &mut strip)?;
     assert!(rt; study.lower(&[150, 200], &mut strip).is_err());
-    assert!(rt;
-        matches!(
-            study.ask(&[120, 100], &mut strip),
-            Err(Refusal::Value { coordinate: 1 })
-        )
+    assert_eq!(rt;
+        study.ask(&[120, 100], &mut strip),
+        Err(Refusal::Value { coordinate: 1 })
     );
-    assert!(rt;
-        matches!(
-            study.search(&mut strip, &mut record),
-            Ok(Report::Settled { count: 7 })
-        )
+    assert_eq!(rt;
+        study.search(&mut strip, &mut record),
+        Ok(Report::Settled { count: 7 })
     );
     assert_eq!(rt; strip, [150, 250, 0, 0, 0, 0, 0, 0]);
     let (_, left) = study.finish();
@@ -62,10 +55,10 @@ fn a_search_goes_on_from_a_raised_floor(rt: HostRuntime) -> Result<(), Fail> {
 }
 
 // The panel's study with its roof lowered to (500, 1000) and nothing left.
-fn lowered(rt: &impl Abort, heap: Global) -> Result<Study<Jobs>, Fail> {
-    let mut study = Study::new(panel(heap)?, 1);
+fn lowered(rt: &impl Abort, alloc: Global) -> Result<Study<Jobs>, Fail> {
+    let mut study = Study::new(panel(alloc)?, 1);
     let mut strip = [9; 2];
-    assert!(rt; study.lower(&[500, 1000], &mut strip).is_ok());
+    study.lower(&[500, 1000], &mut strip)?;
     assert_eq!(rt; strip, [150, 350]);
     Ok(study)
 }
@@ -75,9 +68,9 @@ fn lowered(rt: &impl Abort, heap: Global) -> Result<Study<Jobs>, Fail> {
 fn strip_and_values_are_counted_first(rt: HostRuntime) -> Result<(), Fail> {
     let mut study = lowered(&rt, rt.alloc())?;
     let mut short = [9; 1];
-    assert!(rt; matches!(study.raise(&[120], &mut short), Err(Refusal::Strip)));
+    assert_eq!(rt; study.raise(&[120], &mut short), Err(Refusal::Strip));
     let mut strip = [9; 2];
-    assert!(rt; matches!(study.raise(&[120], &mut strip), Err(Refusal::Values)));
+    assert_eq!(rt; study.raise(&[120], &mut strip), Err(Refusal::Values));
     Ok(())
 }
 
@@ -96,12 +89,14 @@ fn values_come_before_the_box_and_the_box_before_the_allowance(
         (500, 1000, 4, 0),
     ] {
         let mut strip = [9; 2];
-        let Err(refusal) = study.raise(&[first, second], &mut strip) else {
-            return Err(Fail::new("every raise should be refused"));
+        let reply = study.raise(&[first, second], &mut strip);
+        let details = Details {
+            number,
+            a,
+            b: 0,
+            count: 0,
         };
-        let details = refusal.details();
-        assert_eq!(rt; (details.number, details.a), (number, a));
-        assert_eq!(rt; (details.b, details.count), (0, 0));
+        assert_eq!(rt; reply.map_err(|refusal| refusal.details()), Err(details));
         assert_eq!(rt; strip, [9; 2]);
     }
     assert_eq!(rt; study.left(), 0);

@@ -1,7 +1,8 @@
 // Studies over stacks of memos.
-use crate::tests::sheets::{BLANK, panel};
+use crate::tests::sheets::panel;
 use map_trials::Tally;
 use maps::Memo;
+use points::Entry;
 use std::test::Fail;
 use study::{Report, Study};
 
@@ -15,12 +16,10 @@ fn two_memos_answer_a_second_search(rt: HostRuntime) -> Result<(), Fail> {
     let mut study = Study::new(Memo::new(Memo::new(counted)), 12);
     for _ in 0..2 {
         let mut strip = [0; 8];
-        let mut record = [BLANK; 6];
-        assert!(rt;
-            matches!(
-                study.search(&mut strip, &mut record),
-                Ok(Report::Settled { count: 6 })
-            )
+        let mut record = [Entry::default(); 6];
+        assert_eq!(rt;
+            study.search(&mut strip, &mut record),
+            Ok(Report::Settled { count: 6 })
         );
         assert_eq!(rt; strip, [150, 250, 0, 0, 0, 0, 0, 0]);
     }

@@ -1,21 +1,11 @@
-use Rattle.std.proofs.Common.{◌+◌, ◌∷◌, drop, sym, ap, ◌∙◌, arith}
-use Rattle.std.proofs.lemmas.List.{drop_more, drop_all}
-use Rattle.maps.specs.JobRanges.{longest}
-use Rattle.maps.specs.JobLaws.{longest_some}
+use Rattle.std.proofs.Common.{◌≡◌, ◌+◌, max, fold, arith, rules}
+use Rattle.std.proofs.iter.runs.Made.{chains}
+use Rattle.maps.proofs.Slices.{longest_fold}
+use Rattle.maps.specs.JobLaws.{longest_most, longest_some}
 use Rattle.maps.proofs.jobs.longest.Goals as goal
-
-pub loop-job-preserved : goal.loop-job-preserved
-loop-job-preserved c =
-    let jobs = c.args.jobs.now in
-    let i = c.loop-job.job-index in
-    let job = c.job-item.result in
-    let here = drop_more jobs i job c.loop-job-test.true ∙ ap (λ j. j ∷ drop (i + 1) jobs) (sym c.job-item.is) in
-    omega (arith, ap longest here, c.max-size.ensures)
 
 pub returns : goal.returns
 returns c =
-    let end = ap longest (drop_all c.loop-job.job-index c.args.jobs.now c.loop-job-test.false) in
-    record { value = omega (arith, end); bound = omega arith }
-
-pub loop-job-init : goal.loop-job-init
-loop-job-init c = omega (arith, longest_some c.args.jobs.now)
+    let folded : c.fold.result ≡ fold (λ s j. max s (j.limit + 2)) 1 c.args.jobs.now = search (rules, chains) in
+    let most = longest_fold c.args.jobs.now 1 (omega arith) in
+    record { value = omega (arith, folded, most, longest_some c.args.jobs.now); bound = omega (arith, folded, most, longest_most c.args.jobs.now) }

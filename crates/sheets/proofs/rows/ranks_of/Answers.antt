@@ -1,4 +1,4 @@
-use Rattle.std.proofs.Common.{Some, sym, refl, ap, ◌∙◌, arith, rules}
+use Rattle.std.proofs.Common.{◌≡◌, Some, None, sym, refl, ap, ◌∙◌, arith, rules}
 use Rattle.std.specs.List.{slice_get}
 use Rattle.std.proofs.lemmas.Bool.{cond-false, cond-true}
 use Rattle.chains.specs.GradeOrder.{listed}
@@ -10,20 +10,21 @@ use Rattle.sheets.proofs.rows.ranks_of.Goals as goal
 pub loop-i-init : goal.loop-i-init
 loop-i-init c = (filled_none (λ i. rank_at (listed c.args.rows.now.grades) (slice_get c.args.text.now i)) 0, refl)
 
-pub returns-in-None : goal.returns-in-None
-returns-in-None c =
+pub returns-in_err-ranks : goal.returns-in_err-ranks
+returns-in_err-ranks c =
     let letters = listed c.args.rows.now.grades in
     let text = c.args.text.now in
-    let stops = listed_stops letters text c.loop-i.i (search rules) c.in-None.ensures in
-    sym (cond-false _ _ _ (sym c.loop-i.invariant.1 ∙ stops))
+    let none : c.from_residual.result ≡ None = search rules in
+    let stops = listed_stops letters text c.loop-i.i (search rules) c.in_err-ranks.ensures in
+    none ∙ sym (cond-false _ _ _ (sym c.loop-i.invariant.1 ∙ stops))
 
 pub loop-i-preserved : goal.loop-i-preserved
 loop-i-preserved c =
     let letters = listed c.args.rows.now.grades in
     let text = c.args.text.now in
     let i = c.loop-i.i in (
-      filled_more (λ k. rank_at letters (slice_get text k)) 0 i c.loop-i.ranks c.loop-i.invariant.0 c.in-Some.rank (omega arith) (rank_is letters text i c.in-Some.rank (search rules) c.in-Some.ensures),
-      sym (listed_goes letters text i c.in-Some.rank (search rules) c.in-Some.ensures) ∙ c.loop-i.invariant.1,
+      filled_more (λ k. rank_at letters (slice_get text k)) 0 i c.loop-i.ranks c.loop-i.invariant.0 c.in_ok-ranks.field-0 (omega arith) (rank_is letters text i c.in_ok-ranks.field-0 (search rules) c.in_ok-ranks.ensures),
+      sym (listed_goes letters text i c.in_ok-ranks.field-0 (search rules) c.in_ok-ranks.ensures) ∙ c.loop-i.invariant.1,
     )
 
 pub returns : goal.returns

@@ -1,18 +1,11 @@
-use Rattle.std.proofs.Common.{arith, rules}
-use Rattle.sheets.proofs.Scans.{up_ends, up_here, up_next}
+use Rattle.std.proofs.Common.{◌==◌, length, unwrap_or, ap, ◌∙◌, rules, tests}
+use Rattle.std.proofs.lemmas.Iterator.{YieldsList-from_slice}
+use Rattle.std.proofs.lemmas.Iterator.Search.{position_from_yields_List}
+use Rattle.sheets.proofs.Scans.{up_found}
 use Rattle.sheets.proofs.scanner.up_to.Goals as goal
 
-pub returns-then-byte-stop : goal.returns-then-byte-stop
-returns-then-byte-stop c =
-    let here = up_here c.args.stop c.args.bytes.now c.loop-i.i (search rules) (search rules) in
-    record { value = omega (arith, here, c.loop-i.invariant); bound = omega arith }
-
-pub loop-i-preserved : goal.loop-i-preserved
-loop-i-preserved c =
-    let next = up_next c.args.stop c.args.bytes.now c.loop-i.i (search rules) (search rules) in
-    omega (arith, next, c.loop-i.invariant)
-
-pub returns : goal.returns
-returns c =
-    let ends = up_ends c.args.stop c.args.bytes.now c.loop-i.i (search rules) in
-    record { value = omega (arith, ends, c.loop-i.invariant); bound = omega arith }
+pub returns-clause-value : goal.returns-clause-value
+returns-clause-value c =
+    let bytes = c.args.bytes.now in
+    let place = position_from_yields_List (λ b. b == c.args.stop) _ _ c.position.result c.position.ensures.ran (YieldsList-from_slice bytes cc) (λ x b q k. search (rules, tests)) in
+    c.unwrap_or.ensures ∙ ap (λ o. unwrap_or o (length bytes)) place ∙ up_found c.args.stop bytes

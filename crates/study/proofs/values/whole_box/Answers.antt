@@ -1,22 +1,12 @@
-use Rattle.std.proofs.Common.{◌≡◌, ◌-◌, length, replicate, None, ap, arith, rules}
-use Rattle.std.proofs.lemmas.List.{get_or_past}
+use Rattle.std.proofs.Common.{◌≡◌, ◌-◌, ◌<◌, ℕ, get_or, replicate, None, ap₂, rules}
 use Rattle.points.specs.Points.{size_of}
-use Rattle.points.proofs.Filled.{filled_none, filled_more, filled_all}
+use Rattle.points.proofs.Eight.{eight_from}
+use Rattle.bisection.proofs.Zeros.{zeros_lem}
 use Rattle.study.proofs.values.whole_box.Goals as goal
-
-pub loop-i-init : goal.loop-i-init
-loop-i-init c = filled_none (λ i. size_of c.args.sizes.now i - 1) 0
-
-pub loop-i-preserved : goal.loop-i-preserved
-loop-i-preserved c =
-    filled_more (λ i. size_of c.args.sizes.now i - 1) 0 c.loop-i.i c.loop-i.roof c.loop-i.invariant c.saturating_sub.result (omega arith)
-    c.saturating_sub.ensures
 
 pub returns : goal.returns
 returns c =
-    let sizes = c.args.sizes.now in
-    let eight : length sizes ≡ 8 = search rules in
-    let roof =
-    filled_all (λ i. size_of sizes i - 1) 0 c.loop-i.i c.loop-i.roof c.loop-i.invariant
-    (λ k h. ap (λ n. n - 1) (get_or_past sizes k 0 (omega arith))) in
-    ap (λ ranks. record { floor = replicate 8 0; roof = ranks; floor_footing = None; roof_footing = None }) roof
+    let floor : c.default.result ≡ record { at = replicate 8 0; footing = None } = ap₂ (λ ranks footing. record { at = ranks; footing = footing }) (zeros_lem c.default.result.at c.default.ensures.0) c.default.ensures.1 in
+    let top : (k : ℕ) → k < 8 → get_or c.map.result k 0 ≡ size_of c.args.sizes.now k - 1 = λ k h. let m = c.map.ensures.items.at k 0 0 h in search rules in
+    ap₂ (λ low high. record { floor = low; roof = record { at = high; footing = None } }) floor
+    (eight_from (λ i. size_of c.args.sizes.now i - 1) c.map.result c.map.ensures.items.long top)

@@ -1,11 +1,8 @@
-use Rattle.std.proofs.Common.{◌≡◌, ◌+◌, ◌++◌, take, drop, set, unwrap_or, sym, refl, ap, ◌∙◌, add-zero, arith}
+use Rattle.std.proofs.Common.{◌≡◌, ◌+◌, ◌++◌, take, drop, set, unwrap_or, sym, ap, ◌∙◌, arith}
 use Rattle.std.proofs.lemmas.List.{length-set}
 use Rattle.study.specs.Values.{written}
 use Rattle.study.proofs.Cells.{write_end, write_more}
 use Rattle.study.proofs.values.write.Goals as goal
-
-pub loop-i-init : goal.loop-i-init
-loop-i-init g c = (refl, rw (add-zero c.args.at))
 
 pub loop-i-preserved : goal.loop-i-preserved
 loop-i-preserved g c =

@@ -1,23 +1,9 @@
-use Rattle.std.proofs.Common.{◌≡◌, [], ◌∷◌, Some, vec_items, ◌∙◌}
-use Rattle.maps.specs.declared.jobs.job.Lock.{Lock}
-use Rattle.maps.specs.declared.jobs.job.Lock.TheVariants.{Free, Inherit}
+use Rattle.std.proofs.Common.{rules}
 use Rattle.worked.proofs.sheet.two_jobs.Goals as goal
-
--- a lock that is there is that lock
-the_lock : (a b : Lock) → Some a ≡ Some b → a ≡ b
-the_lock a b e = cc
 
 pub returns : goal.returns
 returns c =
-    let first = c.in-Ok.ensures.1 in
-    let second = c.in-Ok-new.ensures.1 in
-    let panel = c.in-Ok-new-2.ensures.made.1 in
-    let items : vec_items c.in_ok-jobs.jobs ≡ c.in-Ok.first ∷ c.in-Ok-new.second ∷ [] = c.in_ok-jobs.ensures.items in
-    record {
-      step = panel.0;
-      first = c.in-Ok.first;
-      second = c.in-Ok-new.second;
-      jobs = panel.1 ∙ items;
-      first_is = record { runs = first.0; periods = first.1; limits = first.2; holds = first.3; locks = the_lock c.in-Ok.first.lock Free first.4 };
-      second_is = record { runs = second.0; periods = second.1; limits = second.2; holds = second.3; locks = the_lock c.in-Ok-new.second.lock Inherit second.4 };
-    }
+    let first = rw c.unwrap-first.ensures at c.new.ensures in
+    let second = rw c.unwrap-second.ensures at c.new-2.ensures in
+    let panel = rw c.unwrap.ensures at c.new-3.ensures.made in
+    record { step = panel.1.0; first = c.unwrap-first.result; second = c.unwrap-second.result; jobs = search rules; first_is = search rules; second_is = search rules }

@@ -1,12 +1,16 @@
-use Rattle.std.proofs.Common.{arith}
-use Rattle.maps.specs.Response.{blocking}
-use Rattle.maps.proofs.Slices.{blocking_more, blocking_end}
+use Rattle.std.proofs.Common.{max, arith, rules, tests}
+use Rattle.std.proofs.lemmas.Iterator.{YieldsList-from_slice, YieldsList-from_zip}
+use Rattle.std.proofs.lemmas.Iterator.Consumers.{YieldsList-at, fold_from_yields_List}
+use Rattle.maps.proofs.Slices.{blocking_fold}
+use Rattle.maps.specs.Response.{holdup}
 use Rattle.maps.proofs.jobs.response.blocking.Goals as goal
 
-pub loop-k-preserved : goal.loop-k-preserved
-loop-k-preserved c =
-    let more = blocking_more c.args.lower.now c.args.ranks.now c.loop-k.k c.loop-k.largest (blocking c.args.lower.now c.args.ranks.now) c.index-lower-k.result (omega arith) (omega arith) c.index-lower-k.is c.loop-k.invariant in
-    omega (arith, more, c.max-largest.ensures, c.holdup.ensures)
-
 pub returns : goal.returns
-returns c = omega (arith, blocking_end c.args.lower.now c.args.ranks.now c.loop-k.k (omega arith), c.loop-k.invariant)
+returns c =
+    let lower = c.args.lower.now in
+    let ranks = c.args.ranks.now in
+    let folded =
+    fold_from_yields_List _ (λ a p. max a (holdup p.0 p.1)) 0 c.fold.result c.fold.ensures.ran
+    (YieldsList-from_zip (YieldsList-at c.zip.ensures.first (YieldsList-from_slice lower cc)) (YieldsList-from_slice ranks cc))
+    (λ a x b q k. search (rules, tests)) in
+    omega (arith, folded, blocking_fold lower ranks 0)

@@ -1,8 +1,8 @@
-use Rattle.std.proofs.Common.{◌≡◌, ◌*◌, ◌≤◌, ◌++◌, length, take, drop, ap, ◌∙◌, arith, rules}
+use Rattle.std.proofs.Common.{◌≡◌, ◌≤◌, length, take, ap, ◌∙◌, arith, rules}
 use Rattle.std.proofs.lemmas.List.{length-take-le}
 use Rattle.study.specs.Calls.{pair_ranks}
 use Rattle.study.specs.Values.{written}
-use Rattle.study.proofs.Cells.{front, written_four}
+use Rattle.study.proofs.Cells.{written_four}
 use Rattle.study.proofs.state.Study.show_pair.Goals as goal
 
 pub returns : goal.returns
@@ -21,8 +21,8 @@ returns g c =
     written_four member (take n low.point) (take n low.answer) (take n high.point) (take n high.answer) strip n
     c.write.new.strip c.write-2.new.strip c.write-3.new.strip c.write-4.new.strip
     (length-take-le n low.point (omega arith)) (length-take-le n low.answer (omega arith)) (length-take-le n high.point (omega arith)) (omega (arith, c.requires, c.dims-dims.ensures))
-    (c.write.ensures ∙ ap (λ rs. written member rs strip) (front low.point n))
-    (c.write-2.ensures ∙ ap (λ rs. take n c.write.new.strip ++ written member rs (drop n c.write.new.strip)) (front low.answer n))
-    (c.write-3.ensures ∙ ap (λ rs. take (2 * n) c.write-2.new.strip ++ written member rs (drop (2 * n) c.write-2.new.strip)) (front high.point n))
-    (c.write-4.ensures ∙ ap (λ rs. take (3 * n) c.write-3.new.strip ++ written member rs (drop (3 * n) c.write-3.new.strip)) (front high.answer n)) in
+    c.write.ensures
+    c.write-2.ensures
+    c.write-3.ensures
+    c.write-4.ensures in
     whole ∙ ap (λ k. written member (pair_ranks k low high) strip) c.dims-dims.ensures

@@ -1,8 +1,7 @@
-use Rattle.std.proofs.Common.{refl}
-use Rattle.maps.specs.MemoLaws.{fresh_monotone}
+use Rattle.std.proofs.Common.{ap, length, arith}
+use Rattle.maps.specs.MemoLaws.{empty_monotone}
 use Rattle.maps.proofs.memo.store.Memo.new.Goals as goal
 
-pub returns : goal.returns
-returns g c =
-    let r = g.M.Map.rules in
-    record { over = refl; empty = refl; monotone = fresh_monotone (r.sizes c.args.map) (r.meaning c.args.map) }
+pub returns-clause-monotone : goal.returns-clause-monotone
+returns-clause-monotone g c =
+    empty_monotone g.M.Map.rules (record { map = c.args.map; entries = c.new.result; most = omega (arith, ap length c.new.ensures) }) c.new.ensures

@@ -1,28 +1,6 @@
-use Rattle.std.proofs.Common.{[], Some, None, vec_items, vec_len, sym, ap, ◌∙◌, arith}
-use Rattle.std.proofs.lemmas.List.{get_or_read_under}
-use Rattle.maps.specs.Replies.{slot_of}
-use Rattle.maps.specs.RowsMade.{rows_of}
-use Rattle.maps.proofs.RowLookup.{look_none, look_some, read_place}
+use Rattle.std.proofs.Common.{◌∙◌}
+use Rattle.maps.proofs.RowLookup.{lookup_listed}
 use Rattle.maps.proofs.rows.table.Rows.find.Goals as goal
 
-pub index-requires-in-Some : goal.index-requires-in-Some
-index-requires-in-Some c =
-    let self = c.args.self.now in
-    let stands = read_place (vec_items self.places) c.args.point.now c.slot_of.result (vec_len self.places) c.index.result.now (Some c.in-Some.place) c.slot_of.ensures.value c.slot_of.ensures.bound self.spread self.places.ok.0 c.index.ensures c.in-Some.is in
-    omega (arith, self.listed (slot_of c.args.point.now) c.in-Some.place stands, self.rows.ok.0)
-
-pub returns-in-Some : goal.returns-in-Some
-returns-in-Some c =
-    let self = c.args.self.now in
-    let place = c.in-Some.place in
-    let stands = read_place (vec_items self.places) c.args.point.now c.slot_of.result (vec_len self.places) c.index.result.now (Some place) c.slot_of.ensures.value c.slot_of.ensures.bound self.spread self.places.ok.0 c.index.ensures c.in-Some.is in
-    let found = look_some self.dims self.grades.count (rows_of self) (vec_items self.places) c.args.point.now self.most self.grades.most self.points self.placed c.requires place self.listed self.apart stands in
-    let below = self.listed (slot_of c.args.point.now) place stands in
-    let read = get_or_read_under (rows_of self) place (vec_len self.rows) c.index-in-Some.result.now (record { point = []; answer = [] }) c.index-in-Some.ensures (omega (arith, below, self.rows.ok.0)) self.rows.ok.0 in
-    ap (λ row. Some row.answer) read ∙ sym found
-
-pub returns-in-None : goal.returns-in-None
-returns-in-None c =
-    let self = c.args.self.now in
-    let free = read_place (vec_items self.places) c.args.point.now c.slot_of.result (vec_len self.places) c.index.result.now None c.slot_of.ensures.value c.slot_of.ensures.bound self.spread self.places.ok.0 c.index.ensures c.in-None.is in
-    sym (look_none self.dims self.grades.count (rows_of self) (vec_items self.places) c.args.point.now self.most self.grades.most self.points self.placed c.requires free)
+pub returns : goal.returns
+returns c = c.copied.ensures ∙ c.get.ensures.value ∙ lookup_listed c.args.self.now.rows.entries c.args.point.now
