@@ -29,6 +29,7 @@ impl Levels {
         ensures { result ≡ question (levels_of self.now) }
     {
         let mut ranks = [0; 8];
+        // by place, as the proof would know nothing of ranks written through a zip
         for (k, level) in self.at.iter().enumerate() {
             ranks[k] = level.middle;
         }
@@ -53,6 +54,7 @@ impl Levels {
         if k >= self.at.len() {
             return;
         }
+        // all levels are gone through, as a range lent out of the vector would lose what is written to it
         for (j, level) in self.at.iter_mut().enumerate() {
             if j <= k {
                 *level = Level::within(*bounds, j);

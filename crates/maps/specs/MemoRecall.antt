@@ -39,14 +39,27 @@ recalled_point sizes [] q y e = let z : ◌≡◌ {A = ℕ} 0 1 = cc in absurd (
 recalled_point sizes (x ∷ es) q y e =
     point_if sizes q y x (find (answers_by sizes q) es) (answers_by sizes q x) refl (recalled_point sizes es q y) e
 
+-- one more answer is recalled where none was
+abbrev or_else : Option (List ℕ) → Option (List ℕ) → Option (List ℕ)
+or_else None o = o
+or_else (Some y) o = Some y
+
+answer_or_else : (a b : Option Entry) → answer_in (option_or a b) ≡ or_else (answer_in a) (answer_in b)
+answer_or_else None b = refl
+answer_or_else (Some e) b = refl
+
+recalled_push : (sizes : List ℕ) (es : List Entry) (e : Entry) (q : List ℕ) → recalled sizes (es ++ e ∷ []) q ≡ or_else (recalled sizes es q) (recalled sizes (e ∷ []) q)
+recalled_push sizes es e q =
+    ap answer_in (find-append (answers_by sizes q) es (e ∷ [])) ∙ answer_or_else (find (answers_by sizes q) es) (find (answers_by sizes q) (e ∷ []))
+
 -- storing what the map below answers changes nothing that is told
-stored_if : (e : Entry) (below : Result (List ℕ) Fault) (o : Option Entry) (b : Bool) → (b ≡ true → below ≡ Ok e.answer) → recall_or (answer_in (option_or o (cond b (Some e) None))) below ≡ recall_or (answer_in o) below
+stored_if : (e : Entry) (below : Result (List ℕ) Fault) (o : Option (List ℕ)) (b : Bool) → (b ≡ true → below ≡ Ok e.answer) → recall_or (or_else o (answer_in (cond b (Some e) None))) below ≡ recall_or o below
 stored_if e below None true h = sym (ap (recall_or None) (h refl))
 stored_if e below None false h = refl
-stored_if e below (Some x) b h = refl
+stored_if e below (Some y) b h = refl
 
 pub told_same : (sizes : List ℕ) (es : List Entry) (e : Entry) (F : List ℕ → Result (List ℕ) Fault) → F e.point ≡ Ok e.answer → (q : List ℕ) → recall_or (recalled sizes (es ++ e ∷ []) q) (F q) ≡ recall_or (recalled sizes es q) (F q)
 told_same sizes es e F is q =
-    ap (λ o. recall_or (answer_in o) (F q)) (find-append (answers_by sizes q) es (e ∷ []))
-    ∙ stored_if e (F q) (find (answers_by sizes q) es) (answers_by sizes q e)
+    ap (λ o. recall_or o (F q)) (recalled_push sizes es e q)
+    ∙ stored_if e (F q) (recalled sizes es q) (answers_by sizes q e)
     (λ t. ap F (sym ((same_decides e.point q).0 (and_parts _ _ t).0)) ∙ is)

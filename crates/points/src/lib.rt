@@ -7,6 +7,8 @@
 ghost use Rattle.std.specs.Prelude.{◌≡◌, ◌<◌, IfSome};
 ghost use Rattle.points.specs.Points.{first_above, is_point, same_ranks};
 
+use thiserror::Error;
+
 // How many coordinates a point has room for.
 pub const COORDINATES: usize = 8;
 
@@ -22,7 +24,8 @@ pub struct Entry {
 
 // Why a question has no answer: a cause from 1 to 255, which each map numbers for itself, and how many layers passed it on, up to
 // 255.
-#[derive(Clone, Copy, PartialEq, Eq, Debug)]
+#[derive(Clone, Copy, PartialEq, Eq, Debug, Error)]
+#[error("cause {cause}, depth {depth}")]
 pub struct Fault {
     pub cause: u8,
     pub depth: u8,

@@ -7,7 +7,7 @@ use points::Entry;
 use std::alloc::Global;
 use study::{Details, Refusal, Report, Study};
 
-// The panel: in ticks of 50 microseconds, a job of 2 ticks every 10, and below it one of 3 every 20 that holds the lock for 1.
+// The panel, made as a caller of the library makes one: in ticks of 50 microseconds, a job of 2 ticks every 10, and below it one of 3 every 20 that holds the lock for 1.
 fn panel(alloc: Global) -> anyhow::Result<Jobs> {
     let first = Job::new(2, 10, 10, 0, '-')?;
     let second = Job::new(3, 20, 20, 1, 'h')?;

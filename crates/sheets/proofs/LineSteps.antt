@@ -2,8 +2,9 @@
 use Rattle.std.proofs.Common.{◌≡◌, ℕ, suc, ◌+◌, ◌-◌, ◌<◌, ◌≤◌, min, true, false, ◌⊎◌, List, [], ◌∷◌, length, take, drop, Ok, Err, sym, refl, ap, ◌∙◌, inl, inr, arith}
 use Rattle.std.proofs.lemmas.List.{drop_all}
 use Rattle.std.proofs.lemmas.Bool.{and_from, and_left, and_right, cases_lt, cond-false, cond-true, le-ltb, lt-ltb}
+use Rattle.sheets.specs.Dues.{end_from, line_ends}
 use Rattle.sheets.specs.Forms.{Form, form_of}
-use Rattle.sheets.specs.Lines.{line_from, neat, up_to}
+use Rattle.sheets.specs.Lines.{file_end_from, file_ends, line_from, neat, up_to}
 use Rattle.sheets.specs.Reading.{State}
 use Rattle.sheets.specs.Words.{after_word, word_due, word_from, word_of}
 use Rattle.sheets.specs.declared.faults.Fault.TheVariants.{Text, Contents, Form as Wrong}
@@ -47,5 +48,23 @@ unfolding word_due
 word_missing s e = from s.left e
   where
     from : (left : List ℕ) → length left ≡ 0 → word_from left s ≡ Err (Wrong, s.line)
+    from [] e = refl
+    from (b ∷ bs) e = absurd (omega arith)
+
+-- no word is over
+pub line_ends_lem : (s : State) → length s.left ≡ 0 → line_ends s ≡ Ok (tt, s)
+unfolding line_ends
+line_ends_lem s e = from s.left e
+  where
+    from : (left : List ℕ) → length left ≡ 0 → end_from left s ≡ Ok (tt, s)
+    from [] e = refl
+    from (b ∷ bs) e = absurd (omega arith)
+
+-- no line is over
+pub file_ends_lem : (s : State) → length s.rest ≡ 0 → file_ends s ≡ Ok (tt, s)
+unfolding file_ends
+file_ends_lem s e = from s.rest e
+  where
+    from : (rest : List ℕ) → length rest ≡ 0 → file_end_from rest s ≡ Ok (tt, s)
     from [] e = refl
     from (b ∷ bs) e = absurd (omega arith)

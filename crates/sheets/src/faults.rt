@@ -44,6 +44,7 @@ pub enum Unread {
     Memory,
 }
 
+// By these two, `?` tells want of memory; their promise says so to the callers.
 impl From<AllocError> for Unread {
     ghost from_gives = { λ _ r. r ≡ Memory };
 

@@ -81,7 +81,7 @@ impl<'a> Word<'a> {
         }
     }
 
-    // Each form has its own look, as each takes another type out.
+    // The next four each take out what their form holds.
 
     // The text of a name.
     pub fn name(self) -> Option<&'a [u8]>

@@ -1,5 +1,5 @@
 -- A turn of the search: a question is put, and its answer is judged level by level.
-use Rattle.std.proofs.Common.{◌≡◌, ℕ, suc, ◌+◌, ◌-◌, ◌<◌, List, length, drop, set, Ok, Err, Result, sym, refl, ap, ◌∙◌, subst, subst₂, arith}
+use Rattle.std.proofs.Common.{◌≡◌, ℕ, suc, ◌+◌, ◌-◌, ◌<◌, List, length, drop, set, Ok, Err, sym, refl, ap, ◌∙◌, subst, subst₂, arith}
 use Rattle.chains.specs.Order.{Order}
 use Rattle.points.specs.declared.Entry.{Entry}
 use Rattle.points.specs.declared.Fault.{Fault}
@@ -20,11 +20,6 @@ use Rattle.study.specs.declared.state.Study.{Study}
 use Rattle.study.proofs.Judging.{entry, judged_decision, newest}
 use Rattle.study.proofs.Seeking.{Asking, ends_fault, ends_pair, ends_settled, goes_on}
 
--- what is told of a question, as the search takes it
-abbrev pub halted : Result (List ℕ) Fault → Result (List ℕ) Halt
-halted (Ok y) = Ok y
-halted (Err f) = Err (Halt.Faulted f)
-
 module _ {M V : Type 0} (o : Order M V) (r : Rules M) (s₀ : Study M) (log₀ : List Entry) (ls : List Level) (c : ℕ) (s : Study M) (log : List Entry) (asking : Asking o r s₀ log₀ ls c s log) (some : s.left ≡ 0 → ⊥) (room : c < length log) (q : List ℕ) (asked : q ≡ question ls) (m : M) (puts : r.puts s.map q m) (same : SameRules r s.map m) (same_order : SameOrder o s.map m) where
   -- the study once the question was put
   abbrev pub after : Study M
@@ -33,16 +28,9 @@ module _ {M V : Type 0} (o : Order M V) (r : Rules M) (s₀ : Study M) (log₀ :
   puts_asked : r.puts s.map (question ls) m
   puts_asked = subst (λ p. r.puts s.map p m) asked puts
 
-  fault : (b : Result (List ℕ) Fault) (halt : Halt) → b ≡ r.meaning s.map (question ls) → Err halt ≡ halted b → Sought o r s₀ log₀ (Err halt) after log
-  fault (Ok y) halt is told = absurd cc
-  fault (Err f) halt is told =
-      let faulted : Halt.Faulted f ≡ halt = cc in
-      subst (λ h. Sought o r s₀ log₀ (Err h) after log) faulted
-      (ends_fault o r s₀ log₀ ls c s log asking after (omega arith) (omega (arith, asking.whole)) refl refl puts_asked same same_order f is)
-
-  pub turn_fault : (end : Result Found Halt) (halt : Halt) → end ≡ Err halt → Err halt ≡ halted (r.meaning s.map q) → Sought o r s₀ log₀ end after log
-  turn_fault end halt is told =
-      subst (λ x. Sought o r s₀ log₀ x after log) (sym is) (fault (r.meaning s.map q) halt (ap (r.meaning s.map) asked) told)
+  pub turn_fault : (f : Fault) → Err f ≡ r.meaning s.map q → Sought o r s₀ log₀ (Err (Halt.Faulted f)) after log
+  turn_fault f told =
+      ends_fault o r s₀ log₀ ls c s log asking after (omega arith) (omega (arith, asking.whole)) refl refl puts_asked same same_order f (told ∙ ap (r.meaning s.map) asked)
 
   module _ (y : List ℕ) (answered : Ok y ≡ r.meaning s.map q) (k : ℕ) (held : List Level) (kept : held ≡ ls) (agreed : decide k (drop k held) (newest log c q y) ≡ decide 0 held (newest log c q y)) where
     judged : (v : Verdict) → v ≡ verdict k (drop k held) (newest log c q y) → carried k (drop (suc k) ls) (decide (suc k) (drop (suc k) ls) (entry_of ls y)) v ≡ decision ls y

@@ -76,7 +76,7 @@ impl<M: Map> Study<M> {
             .map_err(|fault| Refusal::Faulted { fault, count: 1 })
     }
 
-    // Writes the answer's values to the strip.
+    // Writes the answer's values to the strip. The strip is lent, so that whoever writes to it asks for the room.
     fn show(&self, answer: &Ranks, strip: &mut [M::Value])
         requires { M.Map.rules.dims self.now.map ≤ length strip.old }
         ensures { strip.new ≡ written (M.Chain.order.member self.now.map) (take (M.Map.rules.dims self.now.map) answer.now) strip.old }
@@ -155,7 +155,7 @@ impl<M: Map> Study<M> {
         Ok(Report::Answered { count: 1 })
     }
 
-    // Does the same for the roof, if the answer is at most the point.
+    // Does the same for the roof, if the answer is at most the point. The two calls share all but the side that they name.
     pub fn lower(&mut self, values: &[M::Value], strip: &mut [M::Value]) -> Result<Report, Refusal>
         ensures { Accounted M.Chain.order M.Map.rules (event (lowering values.now) self.old strip.old [] result self.new strip.new []) }
     {

@@ -29,7 +29,7 @@ pub enum Refusal {
     #[error("a question is due and nothing is left of the allowance; {count} were put")]
     Spent { count: u32 },
     // the faulted question is counted too
-    #[error("question {count} met a fault of the map: cause {}, depth {}", .fault.cause, .fault.depth)]
+    #[error("question {count} met a fault of the map: {fault}")]
     Faulted { fault: Fault, count: u32 },
     #[error("the point to raise or lower lies outside the box in coordinate {coordinate}")]
     Outside { coordinate: u32 },

@@ -23,7 +23,7 @@ pub(crate) enum Found {
     },
 }
 
-// Why a search halted before it found anything.
+// Why a search halted before it found anything. Its caller makes a refusal of it, once it knows the count.
 #[derive(Clone, Copy)]
 pub(crate) enum Halt {
     // a question was due and nothing was left
@@ -65,7 +65,10 @@ impl<M: Map> Study<M> {
             }
             let point = levels.question();
             self.left -= 1;
-            let answer = self.map.put(point).map_err(Halt::Faulted)?;
+            let answer = match self.map.put(point) {
+                Ok(answer) => answer,
+                Err(fault) => break 'questions Err(Halt::Faulted(fault)),
+            };
             log[at] = Entry { point, answer };
             made += 1;
             let mut k = 0;

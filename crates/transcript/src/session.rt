@@ -8,7 +8,7 @@ use study::Study;
 #[derive(Drop)]
 pub(crate) struct Session<V, M> {
     pub(crate) study: Study<M>,
-    // how many coordinates its map has
+    // how many coordinates its map has, which a study does not tell
     pub(crate) dims: usize,
     pub(crate) strip: Vec<V>,
     pub(crate) log: Vec<Entry>,

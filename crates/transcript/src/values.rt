@@ -10,7 +10,7 @@ pub trait Printed: Copy {
     // The bytes that are printed of it.
     ghost bytes: { Self → List ℕ };
 
-    // What fills a strip before anything is written to it.
+    // What fills a strip before anything is written to it: of a grade no `u8` by default, but a minus.
     ghost nothing: { Self };
 
     fn blank() -> Self

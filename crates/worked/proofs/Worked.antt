@@ -6,8 +6,8 @@ use Rattle.study.specs.Calls.Call.{raise, lower, search}
 use Rattle.study.specs.History.{whole_box}
 use Rattle.study.specs.Replies.{Reply}
 use Rattle.worked.specs.Examples.{Leaves, WorkedExamples, raised_box}
-use Rattle.worked.proofs.Jobs.{on_sheet}
-use Rattle.worked.proofs.Tables.{on_memo, on_table}
+use Rattle.worked.proofs.Jobs.{on_sheet_lem}
+use Rattle.worked.proofs.Tables.{on_memo, on_table_lem}
 
 -- k more than n, so that it shows
 abbrev past : ℕ → ℕ → ℕ
@@ -32,18 +32,18 @@ leaves {reply = reply} {cells = cells} = known (λ d. Leaves d reply cells)
 
 pub worked_examples_lem : WorkedExamples
 worked_examples_lem = record {
-  settles = λ m h. leaves 6 6 (λ a r. on_sheet m h a r search) (λ a r. (refl, refl));
-  questions = λ m h. ap (λ x. x.questions) (on_sheet m h 6 6 search);
-  spent = λ m h r hr. leaves 0 5 (λ a r. on_sheet m h 5 r search) (λ a r. (refl, refl)) 0 r (omega arith) hr;
-  full = λ m h a ha. leaves 6 0 (λ a r. on_sheet m h a 5 search) (λ a r. (refl, refl)) a 0 ha (omega arith);
-  raises = λ m h a ha. leaves 1 0 (λ a r. on_sheet m h a 0 (raise (100 ∷ 100 ∷ []))) (λ a r. rw (eqb-suc-zero a) (refl, refl)) a 0 ha (omega arith);
-  raises_floor = λ m h a ha. known (λ d. d.box ≡ raised_box) 1 0 (λ a r. on_sheet m h a 0 (raise (100 ∷ 100 ∷ []))) (λ a r. rw (eqb-suc-zero a)) a 0 ha (omega arith);
-  lowers = λ m h a ha. leaves 1 0 (λ a r. on_sheet m h a 0 (lower (150 ∷ 200 ∷ []))) (λ a r. rw (eqb-suc-zero a) (refl, refl)) a 0 ha (omega arith);
-  lowers_nothing = λ m h a ha. known (λ d. d.box ≡ whole_box (12 ∷ 22 ∷ replicate 6 1)) 1 0 (λ a r. on_sheet m h a 0 (lower (150 ∷ 200 ∷ []))) (λ a r. rw (eqb-suc-zero a)) a 0 ha (omega arith);
-  crossed = λ m h. leaves 2 2 (λ a r. on_table _ m h a r search) (λ a r. (refl, refl));
-  unlisted = λ m h. leaves 1 1 (λ a r. on_table _ m h a r search) (λ a r. (refl, refl));
+  settles = λ m h. leaves 6 6 (λ a r. on_sheet_lem m h a r search) (λ a r. (refl, refl));
+  questions = λ m h. ap (λ x. x.questions) (on_sheet_lem m h 6 6 search);
+  spent = λ m h r hr. leaves 0 5 (λ a r. on_sheet_lem m h 5 r search) (λ a r. (refl, refl)) 0 r (omega arith) hr;
+  full = λ m h a ha. leaves 6 0 (λ a r. on_sheet_lem m h a 5 search) (λ a r. (refl, refl)) a 0 ha (omega arith);
+  raises = λ m h a ha. leaves 1 0 (λ a r. on_sheet_lem m h a 0 (raise (100 ∷ 100 ∷ []))) (λ a r. rw (eqb-suc-zero a) (refl, refl)) a 0 ha (omega arith);
+  raises_floor = λ m h a ha. known (λ d. d.box ≡ raised_box) 1 0 (λ a r. on_sheet_lem m h a 0 (raise (100 ∷ 100 ∷ []))) (λ a r. rw (eqb-suc-zero a)) a 0 ha (omega arith);
+  lowers = λ m h a ha. leaves 1 0 (λ a r. on_sheet_lem m h a 0 (lower (150 ∷ 200 ∷ []))) (λ a r. rw (eqb-suc-zero a) (refl, refl)) a 0 ha (omega arith);
+  lowers_nothing = λ m h a ha. known (λ d. d.box ≡ whole_box (12 ∷ 22 ∷ replicate 6 1)) 1 0 (λ a r. on_sheet_lem m h a 0 (lower (150 ∷ 200 ∷ []))) (λ a r. rw (eqb-suc-zero a)) a 0 ha (omega arith);
+  crossed = λ m h. leaves 2 2 (λ a r. on_table_lem _ m h a r search) (λ a r. (refl, refl));
+  unlisted = λ m h. leaves 1 1 (λ a r. on_table_lem _ m h a r search) (λ a r. (refl, refl));
   unlisted_below = λ m h. leaves 1 1 (λ a r. on_memo _ m h a r search) (λ a r. (refl, refl));
-  both_fixed = λ m h. leaves 1 1 (λ a r. on_table _ m h a r search) (λ a r. (refl, refl));
+  both_fixed = λ m h. leaves 1 1 (λ a r. on_table_lem _ m h a r search) (λ a r. (refl, refl));
   three = refl;
   four = refl;
   widest = refl;
