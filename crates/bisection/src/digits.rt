@@ -19,6 +19,7 @@ pub fn most_questions(bounds: &Bounds, dims: usize) -> u64
     ensures few { QuestionsAreFew }
     ensures enough { EnoughSuffices }
 {
+    // a `for`, as the bound of a chain's `product` would stay open
     let mut most = 1;
     for (floor, roof) in bounds.floor.at.iter().zip(&bounds.roof.at[..dims.min(8)]) {
         let width = u64::from(roof.saturating_sub(*floor)) + 1;

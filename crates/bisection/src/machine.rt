@@ -54,7 +54,7 @@ impl Levels {
         if k >= self.at.len() {
             return;
         }
-        // all levels are gone through, as a range lent out of the vector would lose what is written to it
+        // all levels are gone through, as the proof would know nothing of what is written to a range of them
         for (j, level) in self.at.iter_mut().enumerate() {
             if j <= k {
                 *level = Level::within(*bounds, j);

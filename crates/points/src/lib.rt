@@ -22,8 +22,8 @@ pub struct Entry {
     pub answer: Ranks,
 }
 
-// Why a question has no answer: a cause from 1 to 255, which each map numbers for itself, and how many layers passed it on, up to
-// 255.
+// Why a question has no answer: a cause from 1 to 255, and how many layers passed it on, up to 255. Both are numbers, as layers add
+// and any map may be below: 9 is for eight ranks that are no point, and each map numbers its other causes.
 #[derive(Clone, Copy, PartialEq, Eq, Debug, Error)]
 #[error("cause {cause}, depth {depth}")]
 pub struct Fault {

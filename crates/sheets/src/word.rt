@@ -81,7 +81,7 @@ impl<'a> Word<'a> {
         }
     }
 
-    // The next four each take out what their form holds.
+    // The next four differ in the form that they look for and in what it holds, so one function could not say it for them.
 
     // The text of a name.
     pub fn name(self) -> Option<&'a [u8]>

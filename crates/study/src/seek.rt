@@ -54,7 +54,8 @@ impl<M: Map> Study<M> {
     {
         let mut levels = Levels::open(&self.bounds, self.map.dims());
         let mut made = 0;
-        // questions, and in each the levels that judge its answer: every way on or out names the loop that it goes by
+        // questions, and in each the levels that judge its answer; each way on or out goes by a label, a fault's too, so that it can
+        // be seen which loop it ends
         'questions: loop {
             let at = made;
             if self.left == 0 {

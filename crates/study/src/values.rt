@@ -75,8 +75,8 @@ pub(crate) fn inside(bounds: &Bounds, point: Ranks) -> Result<Ranks, Refusal>
     }
 }
 
-// Writes ranks as values to the cells of a strip from `at` on. By index: a proof would know nothing of what an `iter_mut` zipped
-// with the ranks has written.
+// Writes ranks as values to the cells of a strip from `at` on. By index: of a strip that is written through a zip with the ranks, a
+// proof would know the length alone.
 pub(crate) fn write<C: Chain>(chain: &C, ranks: &[u32], strip: &mut [C::Value], at: usize)
     requires { at + length ranks.now ≤ length strip.old }
     ensures { strip.new ≡ take at strip.old ++ written (C.Chain.order.member chain.now) ranks.now (drop at strip.old) }

@@ -1,4 +1,4 @@
-// The lines of a transcript.
+// The lines of a transcript: text from values, that knows nothing of a study.
 ghost use Rattle.std.specs.Prelude.{◌*◌, ◌≤◌, ◌++◌, map, length, decimal};
 ghost use Rattle.transcript.specs.Lines.{kind_line, left_line, reply_line};
 ghost use Rattle.transcript.specs.Text.{Appended, line_of, words_on};

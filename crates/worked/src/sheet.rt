@@ -1,4 +1,4 @@
-// The two-job sheet of the worked examples, built in code.
+// The two-job sheet of the worked examples, made in code, so that there is a panel of which they speak.
 ghost use Rattle.std.specs.Prelude.{IfOk};
 ghost use Rattle.worked.specs.Sheets.{TwoJobs};
 

@@ -6,6 +6,7 @@ use chains::Grades;
 #[derive(Drop)]
 pub struct Broken {
     pub(super) grades: Grades,
+    // the depth of its faults
     pub(super) depth: u8,
     ghost most: { depth ≤ 255 },
 }

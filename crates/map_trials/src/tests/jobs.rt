@@ -4,7 +4,7 @@ use points::Fault;
 use std::alloc::Global;
 use std::test::Fail;
 
-// A panel of two jobs in ticks of 50 microseconds; the second has this hold and mark.
+// Made by its numbers, so that the cases can be read by themselves: a panel of two jobs in ticks of 50 microseconds; the second has this hold and mark.
 pub(super) fn panel(alloc: Global, hold: u32, mark: char) -> Result<Jobs, Fail> {
     let mut jobs = Vec::new(alloc);
     for (run, period, hold, mark) in [(2, 10, 0, '-'), (3, 20, hold, mark)] {

@@ -5,7 +5,7 @@ use maps::{Job, Jobs, Rows};
 use std::alloc::Global;
 use std::test::Fail;
 
-// A panel of two jobs in ticks of 50 microseconds. Their coordinates have 12 and 22 members, and (150, 250) is its own answer.
+// Made by its numbers, so that the cases can be read by themselves: a panel of two jobs in ticks of 50 microseconds. Their coordinates have 12 and 22 members, and (150, 250) is its own answer.
 pub(super) fn panel(alloc: Global) -> Result<Jobs, Fail> {
     let mut jobs = Vec::new(alloc);
     for (run, period, hold, mark) in [(2, 10, 0, '-'), (3, 20, 1, 'h')] {
