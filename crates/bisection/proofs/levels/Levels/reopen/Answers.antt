@@ -1,4 +1,4 @@
-use Rattle.std.proofs.Common.{◌∙◌, ap, arith, ◌<◌, length, set}
+use Rattle.std.proofs.Common.{◌∙◌, ap, arith, ◌<◌, length, rules, set}
 use Rattle.bisection.specs.Machine.{reopened}
 use Rattle.arrayvec.proofs.ArrayVecLemmas.{items-with_items}
 use Rattle.std.proofs.lemmas.List.{set-get_or}
@@ -16,7 +16,7 @@ loop-j-preserved c =
       | then-j-k w ↦
           w.level-items-is
           ∙ ap (λ ls. set ls j w.within.result) c.loop-j.invariant
-          ∙ ap (λ l. set (opened_to b k j old) j l) w.within.ensures
+          ∙ ap (λ l. set (opened_to b k j old) j l) (search rules)
           ∙ opened_one b k j old (omega arith) (omega arith)
       | else-j-k w ↦ w.level-items-is ∙ set-get_or c.loop-j.level-items j _ ∙ c.loop-j.invariant ∙ opened_no_more b k j old (omega arith)
     ]
