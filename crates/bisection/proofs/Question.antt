@@ -8,7 +8,7 @@ use Rattle.bisection.specs.declared.level.Level.{Level}
 use Rattle.bisection.proofs.Future.{Reads}
 use Rattle.bisection.proofs.Written.{written}
 
-abbrev middles : List Level → List ℕ
+abbrev pub middles : List Level → List ℕ
 middles ls = map (λ (l : Level). l.middle) ls
 
 zeros : (n i : ℕ) → rank_of (replicate n 0) i ≡ 0

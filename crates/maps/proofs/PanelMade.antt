@@ -19,7 +19,7 @@ step_at false size e fits t = refl
 step_at true size e fits t =
     let none = rw fits at t in let z : ◌≡◌ {A = ℕ} 0 1 = cc in absurd (omega arith)
 
-refused_step : (step size count : ℕ) (e : TicksFault) → 1 ≤ size → size ≤ 1000002 → ticks_fault step size ≡ Some e → jobs_fault step count ≡ Some PanelStep
+pub refused_step : (step size count : ℕ) (e : TicksFault) → 1 ≤ size → size ≤ 1000002 → ticks_fault step size ≡ Some e → jobs_fault step count ≡ Some PanelStep
 refused_step step size count e l h t =
     let out : within 1 1000 step ≡ false = step_at (within 1 1000 step) size e (inside 1 1000002 size l h) t in
     ap (λ b. cond (not b) (Some PanelStep) (cond (not (within 1 8 count)) (Some Count) None)) out

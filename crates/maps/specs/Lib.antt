@@ -1,3 +1,4 @@
+pub mod Indexed
 pub mod JobOrder
 pub mod JobRanges
 pub mod Layers

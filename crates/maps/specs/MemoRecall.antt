@@ -48,6 +48,10 @@ answer_or_else : (a b : Option Entry) → answer_in (option_or a b) ≡ or_else 
 answer_or_else None b = refl
 answer_or_else (Some e) b = refl
 
+recalled_if : (sizes q : List ℕ) (x e : Entry) (es : List Entry) (b : Bool) → recalled sizes (es ++ e ∷ []) q ≡ or_else (recalled sizes es q) (recalled sizes (e ∷ []) q) → cond b (Some x.answer) (recalled sizes (es ++ e ∷ []) q) ≡ or_else (cond b (Some x.answer) (recalled sizes es q)) (recalled sizes (e ∷ []) q)
+recalled_if sizes q x e es true rest = refl
+recalled_if sizes q x e es false rest = rest
+
 recalled_push : (sizes : List ℕ) (es : List Entry) (e : Entry) (q : List ℕ) → recalled sizes (es ++ e ∷ []) q ≡ or_else (recalled sizes es q) (recalled sizes (e ∷ []) q)
 recalled_push sizes es e q =
     ap answer_in (find-append (answers_by sizes q) es (e ∷ [])) ∙ answer_or_else (find (answers_by sizes q) es) (find (answers_by sizes q) (e ∷ []))

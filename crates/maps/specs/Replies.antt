@@ -1,6 +1,6 @@
 -- Reply tables: which rows list which answers.
-use Rattle.std.specs.Prelude.{ℕ, Bool, true, cond, ◌&&◌, List, [], ◌∷◌, map, Some, None, Ok, Err, Option, Result, nat_lt}
-use Rattle.points.specs.Points.{Meaning, at_points, eight, is_point, same_ranks}
+use Rattle.std.specs.Prelude.{ℕ, ◌+◌, ◌*◌, Bool, true, cond, ◌&&◌, List, [], ◌∷◌, Some, None, Ok, Err, Option, Result, nat_lt}
+use Rattle.points.specs.Points.{Meaning, at_points, eight, is_point, rank_of, same_ranks}
 use Rattle.points.specs.declared.Entry.{Entry}
 use Rattle.points.specs.declared.Fault.{Fault}
 
@@ -27,9 +27,9 @@ answer_or (Some y) = Ok y
 abbrev pub row_meaning : List ℕ → List Entry → Meaning
 row_meaning sizes rows = at_points sizes (λ q. answer_or (listed_answer rows q))
 
--- the rows, as listed: each point with its answer
-abbrev pub rows_in : List (List ℕ × List ℕ) → List Entry
-rows_in listed = map (λ e. record { point = e.0; answer = e.1 }) listed
+-- where a point of up to four coordinates of up to eight members stands in a table of 4,096 places
+abbrev pub slot_of : List ℕ → ℕ
+slot_of p = rank_of p 0 + 8 * rank_of p 1 + 64 * rank_of p 2 + 512 * rank_of p 3
 
 -- each row lists a point, and an answer that is one
 abbrev pub all_points : List ℕ → List Entry → Bool

@@ -1,12 +1,12 @@
 -- How a reply table is made, row by row, and what it means as a map.
-use Rattle.std.specs.Prelude.{◌≡◌, ℕ, true, false, cond, not, List, [], ◌∷◌, ◌++◌, is_some, Some, None, Ok, Err, Option, Result}
+use Rattle.std.specs.Prelude.{◌≡◌, ℕ, true, false, cond, not, List, [], ◌∷◌, ◌++◌, is_some, Some, None, Ok, Err, vec_items, Option, Result}
 use Rattle.chains.specs.Order.{Order}
 use Rattle.chains.specs.GradeOrder.{grade_order}
 use Rattle.chains.specs.TickOrder.{within}
 use Rattle.chains.specs.declared.grades.letters.Grades.{Grades}
 use Rattle.points.specs.Points.{is_point}
 use Rattle.points.specs.declared.Entry.{Entry}
-use Rattle.maps.specs.Replies.{listed_answer, row_meaning, row_sizes, rows_in}
+use Rattle.maps.specs.Replies.{listed_answer, row_meaning, row_sizes}
 use Rattle.maps.specs.Rules.{Rules}
 use Rattle.chains.specs.Through.{through}
 use Rattle.maps.specs.declared.rows.faults.RowFault.{RowFault}
@@ -20,7 +20,7 @@ abbrev pub sizes_of : Rows → List ℕ
 sizes_of m = row_sizes m.dims m.grades.count
 
 abbrev pub rows_of : Rows → List Entry
-rows_of m = rows_in m.rows.entries
+rows_of m = vec_items m.rows
 
 abbrev pub row_order : Order Rows ℕ
 row_order = through (λ m. m.grades) grade_order

@@ -1,5 +1,5 @@
 -- Eight numbers by coordinate.
-use Rattle.std.proofs.Common.{◌≡◌, ℕ, ◌<◌, ◌≤◌, true, ◌⊎◌, List, length, get_or, inl, inr, zero-le, zero-add}
+use Rattle.std.proofs.Common.{◌≡◌, ℕ, zero, suc, ◌<◌, ◌≤◌, true, ◌⊎◌, List, length, get_or, inl, inr, zero-le, zero-add, arith}
 use Rattle.std.proofs.lemmas.List.FromFn.{fill_by_all, get_or-map-range_with_len, length-map-range_with_len}
 use Rattle.std.proofs.lemmas.List.{get_or_past}
 use Rattle.std.proofs.lemmas.Bool.{cases_lt}
@@ -28,3 +28,15 @@ eight_at_most f g h i = by_place (cases_lt i 8)
     by_place : (i < 8) ⊎ (8 ≤ i) → rank_of (eight f) i ≤ rank_of (eight g) i
     by_place (inl l) = rw (eight_at f i l, eight_at g i l) (h i)
     by_place (inr l) = rw (get_or_past (eight f) i 0 (rw (eight_length f) l)) (zero-le)
+
+-- what holds at each of the eight coordinates holds below 8
+pub by_coordinate : (P : ℕ → Type 0) → P 0 → P 1 → P 2 → P 3 → P 4 → P 5 → P 6 → P 7 → (i : ℕ) → i < 8 → P i
+by_coordinate P a b c d e f g h zero l = a
+by_coordinate P a b c d e f g h (suc zero) l = b
+by_coordinate P a b c d e f g h (suc (suc zero)) l = c
+by_coordinate P a b c d e f g h (suc (suc (suc zero))) l = d
+by_coordinate P a b c d e f g h (suc (suc (suc (suc zero)))) l = e
+by_coordinate P a b c d e f g h (suc (suc (suc (suc (suc zero))))) l = f
+by_coordinate P a b c d e f g h (suc (suc (suc (suc (suc (suc zero)))))) l = g
+by_coordinate P a b c d e f g h (suc (suc (suc (suc (suc (suc (suc zero))))))) l = h
+by_coordinate P a b c d e f g h (suc (suc (suc (suc (suc (suc (suc (suc i)))))))) l = absurd (omega arith)

@@ -44,7 +44,7 @@ lock_refused : (o : Option Lock) (hold : ℕ) (f : JobFault) (s : State) → unm
 lock_refused None hold f s e = refl
 lock_refused (Some lock) hold f s e = test_refused (marks (Some lock) hold) lock f s e
 
-job_refused : (run period limit hold mark : ℕ) (f : JobFault) (s : State) → InRanges run period limit hold → job_fault run period limit hold mark ≡ Some f → lock_due mark hold s ≡ Err (Form, s.line)
+pub job_refused : (run period limit hold mark : ℕ) (f : JobFault) (s : State) → InRanges run period limit hold → job_fault run period limit hold mark ≡ Some f → lock_due mark hold s ≡ Err (Form, s.line)
 unfolding lock_due
 job_refused run period limit hold mark f s r e = lock_refused (lock_of mark) hold f s (sym (fault_is run period limit hold mark r) ∙ e)
 
@@ -56,7 +56,7 @@ lock_given : (o : Option Lock) (lock : Lock) (hold : ℕ) (s : State) → Some l
 lock_given None lock hold s is e = absurd (cc)
 lock_given (Some l) lock hold s is e = let same : l ≡ lock = cc in rw (← same) (test_given (marks (Some l) hold) l s e)
 
-job_given : (run period limit hold mark : ℕ) (lock : Lock) (s : State) → InRanges run period limit hold → job_fault run period limit hold mark ≡ None → Some lock ≡ lock_of mark → lock_due mark hold s ≡ Ok (lock, s)
+pub job_given : (run period limit hold mark : ℕ) (lock : Lock) (s : State) → InRanges run period limit hold → job_fault run period limit hold mark ≡ None → Some lock ≡ lock_of mark → lock_due mark hold s ≡ Ok (lock, s)
 unfolding lock_due
 job_given run period limit hold mark lock s r e is = lock_given (lock_of mark) lock hold s is (sym (fault_is run period limit hold mark r) ∙ e)
 

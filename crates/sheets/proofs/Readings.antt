@@ -23,6 +23,11 @@ pub told_or : {X : Type 0} (d : Result (X × State) Told) (e : Unread) → Tells
 told_or d (Bad f line) h = h
 told_or d Memory h = absurd h
 
+-- what was read with no memory wanting was read
+pub takes_read : {X Y : Type 0} (meaning : Y → X) (d : Result (X × State) Told) (r : Result Y Unread) (after : State) → Takes meaning d r after → Reads meaning d r after
+takes_read meaning d (Ok y) after h = h
+takes_read meaning d (Err e) after h = told_or d e h
+
 -- what is read one way is read the other way
 pub like : {X : Type 0} (d d' : Result (X × State) Told) (e : Unread) → d' ≡ d → Tells d e → Tells d' e
 like d d' (Bad f line) h t = h ∙ t

@@ -66,7 +66,7 @@ ranked_if grades text dims p true t long e =
 ranked_if grades text dims p false t long e = absurd (cc)
 
 -- the ranks of as many grades as there are coordinates are a point
-ranked_point : (grades : Grades) (text : List ℕ) (dims : ℕ) (p : List ℕ) → length text ≡ dims → Some p ≡ ranks_of (listed grades) text → is_point (row_sizes dims grades.count) p ≡ true
+pub ranked_point : (grades : Grades) (text : List ℕ) (dims : ℕ) (p : List ℕ) → length text ≡ dims → Some p ≡ ranks_of (listed grades) text → is_point (row_sizes dims grades.count) p ≡ true
 ranked_point grades text dims p long e = ranked_if grades text dims p (all_listed (listed grades) text) refl long e
 
 -- so are those that are not refused

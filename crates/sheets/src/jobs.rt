@@ -4,14 +4,30 @@
 ghost use Rattle.std.specs.Prelude.{◌≡◌, true};
 ghost use Rattle.chains.specs.TickOrder.{within};
 ghost use Rattle.sheets.specs.JobsBody.{Terms, job_line, jobs_body, panel_of, terms_of};
-ghost use Rattle.sheets.specs.Reading.{Reads, state_of};
+ghost use Rattle.sheets.specs.Reading.{Reads, Takes, state_of};
 
 use crate::faults::{Fault, Unread};
 use crate::lines::{Line, lines};
 use crate::scanner::Scanner;
 use maps::{Job, Jobs};
 
-// `job`, then its run, period, limit and hold, and its lock mark
+// `job`, then its run, period, limit and hold, and its lock mark. It makes nothing, so no memory can be wanting.
+fn job_line(scanner: &mut Scanner) -> Result<Job, Unread>
+    ensures { Takes terms_of (job_line (state_of scanner.old)) result (state_of scanner.new) }
+{
+    scanner.next_line()?;
+    scanner.name(b"job", Fault::Form)?;
+    let run = scanner.number(1, 1_000_000)?;
+    let period = scanner.number(1, 1_000_000)?;
+    let limit = scanner.number(1, period)?;
+    let hold = scanner.number(0, run)?;
+    let mark = scanner.mark()?;
+    // the numbers are in their ranges, so it is the mark that does not go with the hold
+    let job = Job::new(run, period, limit, hold, mark).or(Err(scanner.bad(Fault::Form)))?;
+    scanner.line_end()?;
+    Ok(job)
+}
+
 impl Line for Job {
     ghost Meaning = { Terms };
 
@@ -20,17 +36,7 @@ impl Line for Job {
     ghost reads = { job_line };
 
     fn read(scanner: &mut Scanner) -> Result<Job, Unread> {
-        scanner.next_line()?;
-        scanner.name(b"job", Fault::Form)?;
-        let run = scanner.number(1, 1_000_000)?;
-        let period = scanner.number(1, 1_000_000)?;
-        let limit = scanner.number(1, period)?;
-        let hold = scanner.number(0, run)?;
-        let mark = scanner.mark()?;
-        // the numbers are in their ranges, so it is the mark that does not go with the hold
-        let job = Job::new(run, period, limit, hold, mark).or(Err(scanner.bad(Fault::Form)))?;
-        scanner.line_end()?;
-        Ok(job)
+        job_line(scanner)
     }
 }
 

@@ -74,7 +74,7 @@ module _ {M V : Type 0} (o : Order M V) (r : Rules M) (laws : RulesLaws r) (s : 
         sought.filled sought.box sought.left sought.leads sought.same sought.same_order
 
     -- what the map that the search leaves writes is written as before the search
-    shown_same : (ranks : ℕ → List ℕ) → written (o.member t.map) (ranks (r.dims t.map)) strip ≡ strip_with o r s strip log (ranks (r.dims s.map))
+    pub shown_same : (ranks : ℕ → List ℕ) → written (o.member t.map) (ranks (r.dims t.map)) strip ≡ strip_with o r s strip log (ranks (r.dims s.map))
     shown_same ranks =
         ap (λ d. written (o.member t.map) (ranks d) strip) sought.same.dims
         ∙ written_same (o.member t.map) (o.member s.map) sought.same_order.member (ranks (r.dims s.map)) strip
@@ -87,5 +87,5 @@ module _ {M V : Type 0} (o : Order M V) (r : Rules M) (laws : RulesLaws r) (s : 
     paired low high k shown is shows =
         searches (Ok (Report.Pair n k)) shown (sym (ap (reply_of n) is)) (shows ∙ shown_same (λ d. pair_ranks d low high) ∙ sym (ap strip_of is))
 
-    pub halts : (refusal : Refusal) (reply : Reply) → reply ≡ Err refusal → Err refusal ≡ refused n end → Accounted o r (event search s strip log reply t strip logged)
-    halts refusal reply told is = let makes = refuses n end refusal is in searches reply strip (told ∙ makes.0) makes.1
+    pub halts : (refusal : Refusal) (shown : List V) → shown ≡ strip → Err refusal ≡ refused n end → Accounted o r (event search s strip log (Err refusal) t shown logged)
+    halts refusal shown same is = let makes = refuses n end refusal is in searches (Err refusal) shown makes.0 (same ∙ makes.1)

@@ -180,20 +180,23 @@ impl<M: Map> Study<M> {
         let budget = self.left();
         let sought = self.seek(record);
         let count = budget - self.left();
-        let found = sought.map_err(|halt| halt.refusal(count))?;
-        match found {
-            Found::Settled(point) => {
+        match sought {
+            Ok(Found::Settled(point)) => {
                 self.show(&point, strip);
                 Ok(Report::Settled { count })
             }
-            Found::Pair {
-                low,
-                high,
-                coordinate,
-            } => {
+            Ok(
+                Found::Pair {
+                    low,
+                    high,
+                    coordinate,
+                },
+            ) => {
                 self.show_pair(&low, &high, strip);
                 Ok(Report::Pair { count, coordinate })
             }
+            // an arm of its own, beside those that write to the strip: this one leaves it as it is
+            Err(halt) => Err(halt.refusal(count)),
         }
     }
 

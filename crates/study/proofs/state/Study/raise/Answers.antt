@@ -1,4 +1,4 @@
-use Rattle.std.proofs.Common.{Err, refl, ap, ◌∙◌}
+use Rattle.std.proofs.Common.{Err, refl, ap, ◌∙◌, rules}
 use Rattle.std.proofs.lemmas.Result.{err_from_is_err_and}
 use Rattle.points.specs.Points.{first_above}
 use Rattle.study.specs.Calls.{floor_at}
@@ -29,4 +29,4 @@ pub returns : goal.returns
 returns g c =
     right_side g.M.Chain.order g.M.Map.rules g.met.M.Map.rules_laws c.args.self.now c.args.strip.now c.args.values.now (raise c.args.values.now) floor_at (λ e. first_above e.point e.answer) refl
     c.in_ok-point.point c.in_ok-point.ensures _ c.put_and_show.new.self c.put_and_show.new.strip c.in_ok-answer.ensures.told c.in_ok-answer.ensures.moved c.in_ok-answer.ensures.shown c.in_ok-answer.answer refl
-    c.in_ok-at_most.ensures _ (ap (λ x. record { floor = x; roof = c.put_and_show.new.self.bounds.roof }) c.side_at-self.ensures) refl refl
+    c.in_ok-at_most.ensures _ (search rules) refl refl

@@ -1,5 +1,4 @@
-use Rattle.std.proofs.Common.{◌≡◌, ◌-◌, Ok, Err, Result, ap, ◌∙◌, arith, rules}
-use Rattle.std.proofs.lemmas.Result.{err_from_is_err_and}
+use Rattle.std.proofs.Common.{◌≡◌, ◌-◌, Ok, Err, Result, arith, rules}
 use Rattle.study.specs.declared.reply.Refusal.{Refusal}
 use Rattle.study.specs.declared.seek.Found.{Found}
 use Rattle.study.specs.declared.seek.Halt.{Halt}
@@ -10,21 +9,20 @@ pub returns-then-strip-dims : goal.returns-then-strip-dims
 returns-then-strip-dims g c =
     short g.M.Chain.order g.M.Map.rules g.met.M.Map.rules_laws c.args.self.now c.args.strip.now c.args.record.now (omega arith)
 
-pub returns-in_err-found : goal.returns-in_err-found
-returns-in_err-found g c =
-    let p = err_from_is_err_and c.from_residual.result c.from_residual.ensures.1 in
-    let told : ◌≡◌ {A = Result Found Refusal} (Err c.in_err-found.field-0.0) (refused (c.left-budget.result - c.left.result) c.seek-sought.result) = search rules in
+pub returns-in-Err : goal.returns-in-Err
+returns-in-Err g c =
+    let told : ◌≡◌ {A = Result Found Refusal} (Err c.refusal.result) (refused (c.left-budget.result - c.left.result) c.seek-sought.result) = search rules in
     halts g.M.Chain.order g.M.Map.rules g.met.M.Map.rules_laws c.args.self.now c.args.strip.now c.args.record.now (omega arith) c.seek-sought.result c.seek-sought.new.self c.seek-sought.new.log c.seek-sought.ensures (c.left-budget.result - c.left.result) (omega (arith, c.seek-sought.ensures.left, c.left-budget.ensures, c.left.ensures))
-    _ _ (p.1 ∙ ap Err p.2) told
+    c.refusal.result _ (search rules) told
 
-pub returns-in-Settled : goal.returns-in-Settled
-returns-in-Settled g c =
-    let found : ◌≡◌ {A = Result Found Halt} c.seek-sought.result (Ok (Found.Settled c.in-Settled.point)) = search rules in
+pub returns-in-Ok-Settled : goal.returns-in-Ok-Settled
+returns-in-Ok-Settled g c =
+    let found : ◌≡◌ {A = Result Found Halt} c.seek-sought.result (Ok (Found.Settled c.in-Ok-Settled.point)) = search rules in
     settled g.M.Chain.order g.M.Map.rules g.met.M.Map.rules_laws c.args.self.now c.args.strip.now c.args.record.now (omega arith) c.seek-sought.result c.seek-sought.new.self c.seek-sought.new.log c.seek-sought.ensures (c.left-budget.result - c.left.result) (omega (arith, c.seek-sought.ensures.left, c.left-budget.ensures, c.left.ensures))
-    c.in-Settled.point c.show.new.strip found c.show.ensures
+    c.in-Ok-Settled.point c.show.new.strip found c.show.ensures
 
-pub returns-in-Pair : goal.returns-in-Pair
-returns-in-Pair g c =
-    let found : ◌≡◌ {A = Result Found Halt} c.seek-sought.result (Ok (Found.Pair c.in-Pair.low c.in-Pair.high c.in-Pair.coordinate)) = search rules in
+pub returns-in-Ok-Pair : goal.returns-in-Ok-Pair
+returns-in-Ok-Pair g c =
+    let found : ◌≡◌ {A = Result Found Halt} c.seek-sought.result (Ok (Found.Pair c.in-Ok-Pair.low c.in-Ok-Pair.high c.in-Ok-Pair.coordinate)) = search rules in
     paired g.M.Chain.order g.M.Map.rules g.met.M.Map.rules_laws c.args.self.now c.args.strip.now c.args.record.now (omega arith) c.seek-sought.result c.seek-sought.new.self c.seek-sought.new.log c.seek-sought.ensures (c.left-budget.result - c.left.result) (omega (arith, c.seek-sought.ensures.left, c.left-budget.ensures, c.left.ensures))
-    c.in-Pair.low c.in-Pair.high c.in-Pair.coordinate c.show_pair.new.strip found c.show_pair.ensures
+    c.in-Ok-Pair.low c.in-Ok-Pair.high c.in-Ok-Pair.coordinate c.show_pair.new.strip found c.show_pair.ensures
